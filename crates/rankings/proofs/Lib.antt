@@ -1,0 +1,4 @@
+pub mod Before
+pub mod Knowing
+pub mod Placing
+pub mod Shifting

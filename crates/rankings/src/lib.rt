@@ -1,0 +1,9 @@
+//! How lists are kept: rankings and their laws, rejection policies, insertion by a ranking, tables of jobs.
+pub mod insertion;
+pub mod lists;
+pub mod orders;
+pub mod policies;
+pub mod ranking;
+pub mod table;
+#[cfg(test)]
+mod tests;

@@ -1,0 +1,3 @@
+pub mod Tallies
+pub mod Timing
+pub mod Written
