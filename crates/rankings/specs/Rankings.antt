@@ -1,6 +1,5 @@
 -- The rankings that are built here.
-use mathlib.Core.Bool.{Bool, false}
-use Prim.Native.Nat.{ℕ}
+use mathlib.Core.Bool.{Bool}
 use lib.Dec.{leb}
 use Rattle.jobs.specs.declared.ending.Ending.{Ending}
 use Rattle.jobs.specs.declared.job.Job.{Job}

@@ -1,7 +1,7 @@
 -- A table that is filled with the entries of a list, one after the other.
 use mathlib.Core.Path.{_≡_, refl, sym, ap, _∙_}
 use mathlib.Core.List.{List, [], _∷_, _++_, append-assoc, append-nil}
-use Prim.Native.Nat.{ℕ, _+_, _≤_, _<_}
+use Prim.Native.Nat.{ℕ, _+_, _<_}
 use native.Mathlib.Omega.{arith}
 use lib.ListN.{length, getD, set, take, drop, take-append-drop}
 use Rattle.std.proofs.shelf.Lists.{at-drop-more, at-drop-all, take-more-set, drop-set-lt, drop-drop}

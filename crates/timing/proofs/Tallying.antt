@@ -1,9 +1,8 @@
 -- What a walk counts is what the list's finishing times say.
 use mathlib.Core.Path.{_≡_, refl, sym, ap, _∙_}
 use mathlib.Core.List.{List, [], _∷_}
-use mathlib.Core.Bool.{Bool, true, false, cond, _&&_}
+use mathlib.Core.Bool.{cond}
 use Prim.Native.Nat.{ℕ, _+_, _-_, _≤_, _<_, max}
-use native.Mathlib.Nat.{add-assoc}
 use native.Mathlib.Omega.{arith}
 use lib.Dec.{ltb, leb, eqb}
 use lib.ListN.{length, getD, drop}
@@ -19,7 +18,7 @@ use Rattle.std.specs.declared.result.Result.the-variants.{Ok, Err}
 use Rattle.timing.specs.declared.entry.Entry.{Entry}
 use Rattle.jobs.specs.declared.job.Job.{Job}
 use Rattle.jobs.specs.declared.refusal.Refusal.{Refusal}
-use Rattle.jobs.specs.Records.{number, limit, residual, excess}
+use Rattle.jobs.specs.Records.{limit, residual, excess}
 use Rattle.timing.specs.Tallies.{Tally, fresh, counted, counted-all, Step, Walked}
 use Rattle.timing.specs.Timing.{finish, holds, exceeding, first-by, cause, In-time, entry}
 

@@ -1,6 +1,5 @@
 //! The steps of a walk, and what it has found.
 ghost use mathlib.Core.Path.{_≡_};
-ghost use mathlib.Core.Bool.{true};
 ghost use Prim.Native.Nat.{_+_};
 ghost use lib.Dec.{eqb};
 ghost use Rattle.timing.specs.Tallies.{fresh, tally, Step, Walk, Profile};

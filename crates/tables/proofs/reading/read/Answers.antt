@@ -6,9 +6,8 @@ use native.Mathlib.Omega.{arith}
 use lib.ListN.{length}
 use Rattle.std.proofs.shelf.Results.{err-from-errBy}
 use Rattle.words.specs.Bytes.{lines}
-use Rattle.words.specs.Faults.{fault-in}
 use Rattle.words.specs.Readers.{lines-left}
-use Rattle.tables.specs.Format.{drafted, unread, lines-in}
+use Rattle.tables.specs.Format.{drafted, lines-in}
 use Rattle.tables.proofs.Gathering.{lines-few, taken-ok, taken-err, line-taken, line-refused, lines-done, table-is}
 use Rattle.tables.proofs.reading.read.Needs as need
 

@@ -1,0 +1,11 @@
+pub mod Calls
+pub mod Giving
+pub mod Lists
+pub mod Plans
+pub mod Promise
+pub mod Published
+pub mod Ranges
+pub mod Readings
+pub mod Runs
+pub mod States
+pub mod Worked
