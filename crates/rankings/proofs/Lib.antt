@@ -1,4 +1,3 @@
 pub mod Before
-pub mod Knowing
 pub mod Placing
-pub mod Shifting
+pub mod Rotating

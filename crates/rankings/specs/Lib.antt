@@ -1,3 +1,3 @@
 pub mod Ranked
 pub mod Rankings
-pub mod Tables
+pub mod Shifts

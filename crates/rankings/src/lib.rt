@@ -1,9 +1,7 @@
-//! How lists are kept: rankings and their laws, rejection policies, insertion by a ranking, tables of jobs.
+//! How lists are kept: rankings and their laws, rejection policies, insertion by a ranking.
 pub mod insertion;
 pub mod lists;
 pub mod orders;
 pub mod policies;
 pub mod ranking;
-pub mod table;
-#[cfg(test)]
-mod tests;
+pub mod shifting;

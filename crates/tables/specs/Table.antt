@@ -13,7 +13,7 @@ use Rattle.jobs.specs.declared.refusal.Refusal.the-variants.{Known, Full}
 use Rattle.rankings.specs.Ranked.{before, insert}
 use Rattle.rankings.specs.Rankings.{by-mark, earlier-deadline}
 use Rattle.jobs.specs.Records.{number}
-use Rattle.rankings.specs.Tables.{listed, known}
+use Rattle.stores.specs.Tables.{listed, known}
 use Rattle.tables.specs.declared.table.Table.{Table}
 
 pub record Sheet : Type 0 where
@@ -29,7 +29,7 @@ blank = record { start = 0; jobs = [] }
 -- the sheet with one job more, by deadline; a number that is there already is refused, then a 65th job
 abbrev pub entered : Sheet → Job → Result Sheet Refusal
 entered s j =
-    cond (known (number j) (s .jobs)) (Err Known)
+    cond (known number (number j) (s .jobs)) (Err Known)
     (cond (leb 64 (length (s .jobs))) (Err Full)
     (Ok (record { start = s .start; jobs = insert (before (by-mark earlier-deadline) number) j (s .jobs) })))
 

@@ -8,7 +8,7 @@ use rankings::orders::ByDeadline;
 use rankings::orders::ByMark;
 use rankings::orders::DeadlineRanking;
 use rankings::orders::MarkRanking;
-use rankings::table::JobTable;
+use stores::table::JobTable;
 
 /// The jobs in the order of their deadlines, and the tick at which the first of them begins.
 #[derive(Drop)]

@@ -1,14 +1,17 @@
-//! A table that is kept by a ranking.
-use crate::orders::ByDeadline;
-use crate::orders::ByMark;
-use crate::orders::DeadlineRanking;
-use crate::orders::MarkRanking;
+//! A table that is kept by a ranking, and a row by its places.
+use crate::ready::ReadyStore;
+use crate::row::Row;
+use crate::row::RowStore;
 use crate::table::JobTable;
 use jobs::job::Class;
 use jobs::job::Job;
 use jobs::job::JobNumbered;
 use jobs::job::Mark;
 use jobs::refusal::RefusalDebug;
+use rankings::orders::ByDeadline;
+use rankings::orders::ByMark;
+use rankings::orders::DeadlineRanking;
+use rankings::orders::MarkRanking;
 use std::test::*;
 
 fn job(number: u16, deadline: u32) -> Job {
@@ -21,8 +24,8 @@ fn job(number: u16, deadline: u32) -> Job {
             tolerance: 0,
             value: 0,
         },
-        computation: 1,
-        remaining: 1,
+        computation: 5,
+        remaining: 5,
         by: 0,
     }
 }
@@ -38,4 +41,20 @@ fn equal_deadlines_go_by_number() -> Result<(), Fail> {
     check_eq(jobs[0].mark.number, 5)?;
     check_eq(jobs[1].mark.number, 3)?;
     check_eq(jobs[2].mark.number, 9)
+}
+
+#[test]
+fn a_row_by_its_places() -> Result<(), Fail> {
+    let mut row = Row::new();
+    check(row.insert(1, job(1, 10)).is_err())?;
+    row.insert(0, job(1, 10))?;
+    row.insert(1, job(2, 20))?;
+    row.insert(1, job(3, 15))?;
+    row.set_remaining(1, 4)?;
+    check(row.set_remaining(1, 6).is_err())?;
+    check_eq(row.read(1)?.remaining, 4)?;
+    check_eq(row.take(0)?.mark.number, 1)?;
+    check_eq(row.read(0)?.mark.number, 3)?;
+    check_eq(row.len(), 2)?;
+    check(row.take(2).is_err())
 }
