@@ -1,5 +1,7 @@
 //! Calls whose cost is measured. Standard input has two bytes: the case, and `1` if its last call is to be made.
 //! The difference in instructions between `1` and `0` is the cost of that call; see tools/bench.
+#![tactic(auto)]
+
 use jobs::refusal::Refusal;
 use rankings::orders::ByDeadline;
 use rankings::policies::ByValue;

@@ -1,4 +1,6 @@
 //! Does this table of jobs hold? Reads the table from standard input and prints the answer.
+#![tactic(auto)]
+
 use std::io::{Read, Write};
 use tables::reading::MAX_INPUT;
 use tables::report::reply;

@@ -1,4 +1,6 @@
 //! Serves the calls of standard input line by line, and prints each answer.
+#![tactic(auto)]
+
 use lines::reply::{MAX_INPUT, reply};
 use std::io::{Read, Write};
 

@@ -1,4 +1,6 @@
 //! How lists are kept: rankings and their laws, rejection policies, insertion by a ranking.
+#![tactic(auto)]
+
 pub mod insertion;
 pub mod lists;
 pub mod orders;

@@ -1,6 +1,8 @@
 //! The rules of the scheduler's calls, and what is proved of every run of them.
 //!
 //! There is no code here to run: each function stands for a theorem, which its contract names.
+#![tactic(auto)]
+
 ghost use Rattle.rules.specs.Promise.{EveryRunIsSound, EveryCallKeeps, NoPlanByLimit};
 ghost use Rattle.rules.specs.Published.{ResidualRecursion, LoadLaw};
 ghost use Rattle.rules.specs.Ranges.{EveryRunInRange};

@@ -1,4 +1,6 @@
 //! When the jobs of a list finish, worked one after the other from a start tick.
+#![tactic(auto)]
+
 pub mod entry;
 #[cfg(test)]
 mod tests;

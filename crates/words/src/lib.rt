@@ -1,4 +1,6 @@
 //! The words of an input with their places, the numbers among them, and the faults of a line.
+#![tactic(auto)]
+
 mod bytes;
 mod fault;
 mod lines;
