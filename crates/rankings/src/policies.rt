@@ -2,7 +2,7 @@
 ghost use Rattle.std.specs.Prelude.{◌≡◌, ◌<◌, ◌≤◌, Bool, true, false, ◌||◌, MatchResult, nat_le};
 ghost use Rattle.jobs.specs.declared.job.Job.{Job};
 ghost use Rattle.rankings.specs.Rankings.{smaller_value};
-ghost use Rattle.std.proofs.Common.{rules, arith};
+ghost use Rattle.std.proofs.Common.{rules};
 
 use crate::ranking::Ranking;
 use jobs::job::Job;
@@ -94,9 +94,9 @@ impl<P: Policy> Ranking for Shelter<P> {
 
     ghost may = { λ s. P.Ranking.may s.policy };
 
-    ghost total = { first_of (Prim.search rules, Prim.grind (arith, Self.row.coded.inj)) };
+    ghost total = { Prim.search rules };
 
-    ghost transitive = { first_of (Prim.search rules, Prim.grind (arith, Self.row.coded.inj)) };
+    ghost transitive = { Prim.search rules };
 
     fn may_precede(&self, x: &Job, y: &Job) -> bool {
         self.policy.may_precede(x, y)

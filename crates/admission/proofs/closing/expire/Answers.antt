@@ -10,13 +10,13 @@ use Rattle.admission.proofs.Outtakes.{taken_fewer}
 use Rattle.admission.proofs.Reading.{read_job}
 use Rattle.admission.proofs.closing.expire.Goals as goal
 
-pub loop-place-preserved-then-not-is-late : goal.loop-place-preserved-then-not-is-late
-loop-place-preserved-then-not-is-late c =
+pub loop-place-preserved-then-not-is_late : goal.loop-place-preserved-then-not-is_late
+loop-place-preserved-then-not-is_late c =
     let ps = listed c.loop-place.parked in
     let i = c.loop-place.place in
     let within : i < length ps = omega arith in
-    let is : c.in-ok-job.job ≡ get_or ps i blank = read_job i ps within c.in-ok-job.job c.in-ok-job.ensures in
-    let stays = ap (late c.args.tick) (sym is) ∙ sym c.is-late.ensures ∙ c.if-not-is-late.true in
+    let is : c.in_ok-job.job ≡ get_or ps i blank = read_job i ps within c.in_ok-job.job c.in_ok-job.ensures in
+    let stays = ap (late c.args.tick) (sym is) ∙ sym c.is_late.ensures ∙ c.if-not-is_late.true in
     expiry_stays c.args.tick _ _ ps (lines c.loop-place.ended) i within c.loop-place.invariant stays
 
 pub loop-place-smaller : goal.loop-place-smaller
@@ -24,7 +24,7 @@ loop-place-smaller c =
     let ps = listed c.loop-place.parked in
     let i = c.loop-place.place in
     let within : i < length ps = omega arith in
-    let out = ap length c.in-ok-end.ensures.left in
+    let out = ap length c.in_ok-end.ensures.left in
     omega (arith, taken_fewer ps i within)
 
 pub loop-place-preserved : goal.loop-place-preserved
@@ -33,9 +33,9 @@ loop-place-preserved c =
     let es = lines c.loop-place.ended in
     let i = c.loop-place.place in
     let within : i < length ps = omega arith in
-    let is : c.in-ok-job.job ≡ get_or ps i blank = read_job i ps within c.in-ok-job.job c.in-ok-job.ensures in
-    let goes = ap (late c.args.tick) (sym is) ∙ sym c.is-late.ensures ∙ c.if-not-is-late.false in
-    let done = c.in-ok-end.ensures in
+    let is : c.in_ok-job.job ≡ get_or ps i blank = read_job i ps within c.in_ok-job.job c.in_ok-job.ensures in
+    let goes = ap (late c.args.tick) (sym is) ∙ sym c.is_late.ensures ∙ c.if-not-is_late.false in
+    let done = c.in_ok-end.ensures in
     expiry_goes c.args.tick _ _ ps es i within c.loop-place.invariant _ _ goes done.left (done.lines ∙ ap (λ j. insert ended_order (ends c.args.tick Missed j) es) done.job)
 
 pub returns : goal.returns

@@ -11,14 +11,14 @@ use Rattle.admission.proofs.Firsts.{first_none, first_shorter, shorter_kept, fir
 use Rattle.admission.proofs.Reading.{read_job}
 use Rattle.admission.proofs.ticking.work_first.Goals as goal
 
-pub returns-in-err-set-remaining : goal.returns-in-err-set-remaining
-returns-in-err-set-remaining g c =
+pub returns-in_err-set_remaining : goal.returns-in_err-set_remaining
+returns-in_err-set_remaining g c =
     let rs = g.S.ReadyStore.jobs c.args.ready.now in
     let some : 0 < length rs = omega arith in
-    let is = read_job 0 rs some c.in-ok-first.first c.in-ok-first.ensures in
+    let is = read_job 0 rs some c.in_ok-first.first c.in_ok-first.ensures in
     let left = ap (λ j. j.remaining) is in
-    let p = err_from_is_err_and c.from-residual-in-err-set-remaining.result c.from-residual-in-err-set-remaining.ensures.1 in
-    rw p.1 (λ lasting. absurd (shorter_kept c.args.tick (lines c.args.ended.now) rs _ some (omega arith) (ap (λ n. set_at 0 (n - 1) rs) (sym left) ∙ c.in-err-set-remaining.ensures.list.0) lasting))
+    let p = err_from_is_err_and c.from_residual-in_err-set_remaining.result c.from_residual-in_err-set_remaining.ensures.1 in
+    rw p.1 (λ lasting. absurd (shorter_kept c.args.tick (lines c.args.ended.now) rs _ some (omega arith) (ap (λ n. set_at 0 (n - 1) rs) (sym left) ∙ c.in_err-set_remaining.ensures.list.0) lasting))
 
 pub returns-then-len-eq0 : goal.returns-then-len-eq0
 returns-then-len-eq0 g c = λ _. first_none c.args.tick (lines c.args.ended.now) (g.S.ReadyStore.jobs c.args.ready.now) (omega arith)
@@ -27,16 +27,16 @@ pub returns-then-first-gt1 : goal.returns-then-first-gt1
 returns-then-first-gt1 g c =
     let rs = g.S.ReadyStore.jobs c.args.ready.now in
     let some : 0 < length rs = omega arith in
-    let is = read_job 0 rs some c.in-ok-first.first c.in-ok-first.ensures in
+    let is = read_job 0 rs some c.in_ok-first.first c.in_ok-first.ensures in
     let left = ap (λ j. j.remaining) is in
-    first_shorter c.args.tick (lines c.args.ended.now) rs _ some (omega arith) (ap (λ n. set_at 0 (n - 1) rs) (sym left) ∙ c.in-ok-set-remaining.ensures.list)
+    first_shorter c.args.tick (lines c.args.ended.now) rs _ some (omega arith) (ap (λ n. set_at 0 (n - 1) rs) (sym left) ∙ c.in_ok-set_remaining.ensures.list)
 
 pub returns : goal.returns
 returns g c =
     let rs = g.S.ReadyStore.jobs c.args.ready.now in
     let es = lines c.args.ended.now in
     let some : 0 < length rs = omega arith in
-    let is = read_job 0 rs some c.in-ok-first.first c.in-ok-first.ensures in
+    let is = read_job 0 rs some c.in_ok-first.first c.in_ok-first.ensures in
     let left = ap (λ j. j.remaining) is in
-    let done = c.in-ok-end.ensures in
+    let done = c.in_ok-end.ensures in
     first_ended c.args.tick es rs _ _ some (omega arith) done.left (done.lines ∙ ap (λ j. insert ended_order (ends c.args.tick InTime j) es) done.job)

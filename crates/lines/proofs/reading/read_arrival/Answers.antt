@@ -18,9 +18,9 @@ returns c =
     let p2 : past_end c.word.new.self ≡ past = c.word.ensures.end ∙ p1 in
     let p3 : past_end c.number-2.new.self ≡ past = c.number-2.ensures.end ∙ p2 in
     let p4 : past_end c.number-3.new.self ≡ past = c.number-3.ensures.end ∙ p3 in
-    let e1 : first_number past ws ≡ Ok c.in-ok-number.number = sym c.number.ensures.value ∙ c.in-ok-number.was in
-    let e2 : first_word past (drop 1 ws) ≡ Ok (piece c.in-ok-class.class) = (λ i. first_word (sym p1 i) (sym l1 i)) ∙ sym c.word.ensures.value ∙ ap (result_map_both piece (λ f. f)) c.in-ok-class.was in
-    let e3 : first_number past (drop 2 ws) ≡ Ok c.in-ok-computation.computation = (λ i. first_number (sym p2 i) (sym l2 i)) ∙ sym c.number-2.ensures.value ∙ c.in-ok-computation.was in
-    let e4 : first_number past (drop 3 ws) ≡ Ok c.in-ok-deadline-in.deadline_in = (λ i. first_number (sym p3 i) (sym l3 i)) ∙ sym c.number-3.ensures.value ∙ c.in-ok-deadline-in.was in
-    let e5 : worth_in past (drop 4 ws) ≡ Ok c.in-ok-worth.worth = (λ i. worth_in (sym p4 i) (sym l4 i)) ∙ sym c.read-worth.ensures ∙ c.in-ok-worth.was in
+    let e1 : first_number past ws ≡ Ok c.in_ok-number.number = sym c.number.ensures.value ∙ c.in_ok-number.was in
+    let e2 : first_word past (drop 1 ws) ≡ Ok (piece c.in_ok-class.class) = (λ i. first_word (sym p1 i) (sym l1 i)) ∙ sym c.word.ensures.value ∙ ap (result_map_both piece (λ f. f)) c.in_ok-class.was in
+    let e3 : first_number past (drop 2 ws) ≡ Ok c.in_ok-computation.computation = (λ i. first_number (sym p2 i) (sym l2 i)) ∙ sym c.number-2.ensures.value ∙ c.in_ok-computation.was in
+    let e4 : first_number past (drop 3 ws) ≡ Ok c.in_ok-deadline_in.deadline_in = (λ i. first_number (sym p3 i) (sym l3 i)) ∙ sym c.number-3.ensures.value ∙ c.in_ok-deadline_in.was in
+    let e5 : worth_in past (drop 4 ws) ≡ Ok c.in_ok-worth.worth = (λ i. worth_in (sym p4 i) (sym l4 i)) ∙ sym c.read_worth.ensures ∙ c.in_ok-worth.was in
     sym (arrival_read past ws _ _ _ _ _ e1 e2 e3 e4 e5)

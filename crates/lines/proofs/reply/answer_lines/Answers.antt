@@ -7,16 +7,16 @@ use Rattle.lines.proofs.reply.answer_lines.Goals as goal
 
 pub loop-line-init : goal.loop-line-init
 loop-line-init c =
-    let all : lines_left c.into-iter-line-iterator.result ≡ lines c.args.input.now = ap lines_left c.into-iter-line-iterator.ensures.into-iter-gives ∙ c.new-line-items.ensures in
+    let all : lines_left c.into_iter-line-iterator.result ≡ lines c.args.input.now = ap lines_left c.into_iter-line-iterator.ensures.into_iter-gives ∙ c.new-line-items.ensures in
     (tt, tt, turns_none (lines c.args.input.now) (string_bytes c.args.text.now) _ _ all c.requires.new (omega (arith, lines_few c.args.input.now, c.requires.short)))
 
-pub answer-line-requires : goal.answer-line-requires
-answer-line-requires c = turns_range (lines c.args.input.now) (string_bytes c.args.text.now) _ _ _ _ c.loop-line.invariant.2
+pub answer_line-requires : goal.answer_line-requires
+answer_line-requires c = turns_range (lines c.args.input.now) (string_bytes c.args.text.now) _ _ _ _ c.loop-line.invariant.2
 
 pub loop-line-preserved : goal.loop-line-preserved
 loop-line-preserved c =
     let split : lines_left c.loop-line.line-iterator ≡ c.in-Some.line.now ∷ lines_left c.next.new.self = c.in-Some.ensures.steps in
-    (tt, tt, turns_more (lines c.args.input.now) (string_bytes c.args.text.now) c.loop-line.number _ _ _ _ _ _ _ c.loop-line.invariant.2 split c.answer-line.ensures.state c.in-ok-answer-line.ensures.text)
+    (tt, tt, turns_more (lines c.args.input.now) (string_bytes c.args.text.now) c.loop-line.number _ _ _ _ _ _ _ c.loop-line.invariant.2 split c.answer_line.ensures.state c.in_ok-answer_line.ensures.text)
 
 pub returns : goal.returns
 returns c =

@@ -11,4 +11,4 @@ pub returns : goal.returns
 returns c =
     let s = seen c.args.scheduler.now in
     let written = profile_written s.clock s.ready (replicate 64 blank) c.profile.new.table c.profile.result c.unwrap-count.result c.profile.ensures c.unwrap-count.ensures c.if-count-eq0.false in
-    subst (λ l. IfOk c.write-entries.result (λ _. string_bytes c.write-entries.new.text ≡ string_bytes c.args.text.now ++ l)) written c.write-entries.ensures
+    subst (λ l. IfOk c.write_entries.result (λ _. string_bytes c.write_entries.new.text ≡ string_bytes c.args.text.now ++ l)) written c.write_entries.ensures

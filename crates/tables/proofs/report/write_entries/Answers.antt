@@ -13,7 +13,7 @@ loop-job-preserved c =
       omega (arith, ap (λ w. w.start) step.0, inv.0),
       omega (arith, ap (λ w. w.jobs) step.0, inv.1),
       counted_more c.args.jobs.now c.loop-job.job-index _ _ _ _ within step.0 inv.2,
-      line_more c.args.start c.args.jobs.now c.loop-job.job-index _ _ _ _ _ _ _ _ within inv.0 (ap (λ w. w.sum) step.0) step.1 c.in-ok-writeln.ensures.bytes inv.3,
+      line_more c.args.start c.args.jobs.now c.loop-job.job-index _ _ _ _ _ _ _ _ within inv.0 (ap (λ w. w.sum) step.0) step.1 c.in_ok-writeln.ensures.bytes inv.3,
     )
 
 pub returns : goal.returns

@@ -14,4 +14,4 @@ returns g c =
     let ρ = parts g.O.Ranking.may g.P.Ranking.may g.P.Policy.spared d in
     let laws = lawful_parts g.O.Ranking.may g.P.Ranking.may g.P.Policy.spared d (record { total = g.met.O.Ranking.total d.order.0; transitive = g.met.O.Ranking.transitive d.order.0 }) (record { total = g.met.P.Ranking.total d.policy; transitive = g.met.P.Ranking.transitive d.policy }) in
     let s = view g.S.ReadyStore.jobs c.args.self.now in
-    record { same = refl; serves = collected ρ laws s (lines c.take-first.new.self) c.take-first.result c.take-first.ensures }
+    record { same = refl; serves = collected ρ laws s (lines c.take_first.new.self) c.take_first.result c.take_first.ensures }

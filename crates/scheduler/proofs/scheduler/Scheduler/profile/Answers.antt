@@ -10,13 +10,13 @@ pub loop-place-preserved : goal.loop-place-preserved
 loop-place-preserved g c =
     let rs = g.S.ReadyStore.jobs c.args.self.now.ready in
     let inv = c.loop-place.invariant in
-    let step = c.in-ok-table.ensures in
+    let step = c.in_ok-table.ensures in
     let i = c.loop-place.place in
     let within : i < length rs = omega arith in
-    let is = read_job i rs within c.in-ok-job.job c.in-ok-job.ensures in (
+    let is = read_job i rs within c.in_ok-job.job c.in_ok-job.ensures in (
       omega (arith, ap (λ w. w.start) step.1, inv.0),
       omega (arith, ap (λ w. w.jobs) step.1),
-      filled_more c.args.self.now.clock rs c.args.table.now c.loop-place.table i c.loop-place.timeline.sum _ c.loop-place.timeline.start blank c.in-ok-table.field-0 within (omega arith) inv.2 inv.0
+      filled_more c.args.self.now.clock rs c.args.table.now c.loop-place.table i c.loop-place.timeline.sum _ c.loop-place.timeline.start blank c.in_ok-table.field-0 within (omega arith) inv.2 inv.0
           (ap (λ w. w.sum) step.1 ∙ ap (λ j. c.loop-place.timeline.sum + j.remaining) is)
           (step.2 ∙ ap (λ j. entry c.loop-place.timeline.start (c.loop-place.timeline.sum + j.remaining) j) is),
     )

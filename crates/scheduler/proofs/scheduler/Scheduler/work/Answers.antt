@@ -18,16 +18,16 @@ returns-then-ticks-lt1 g c =
     let s = view g.S.ReadyStore.jobs c.args.self.now in
     record { same = refl; serves = work_too_few ρ laws s c.args.ticks c.if-ticks-lt1.true }
 
-pub returns-then-ticks-gt-MAX-TICKS : goal.returns-then-ticks-gt-MAX-TICKS
-returns-then-ticks-gt-MAX-TICKS g c =
+pub returns-then-ticks-gt-MAX_TICKS : goal.returns-then-ticks-gt-MAX_TICKS
+returns-then-ticks-gt-MAX_TICKS g c =
     let d = c.args.self.now.discipline in
     let ρ = parts g.O.Ranking.may g.P.Ranking.may g.P.Policy.spared d in
     let laws = lawful_parts g.O.Ranking.may g.P.Ranking.may g.P.Policy.spared d (record { total = g.met.O.Ranking.total d.order.0; transitive = g.met.O.Ranking.transitive d.order.0 }) (record { total = g.met.P.Ranking.total d.policy; transitive = g.met.P.Ranking.transitive d.policy }) in
     let s = view g.S.ReadyStore.jobs c.args.self.now in
-    record { same = refl; serves = work_too_many ρ laws s c.args.ticks c.if-ticks-gt-MAX-TICKS.true }
+    record { same = refl; serves = work_too_many ρ laws s c.args.ticks c.if-ticks-gt-MAX_TICKS.true }
 
-pub returns-then-self-ticks-gt-LAST-TICK : goal.returns-then-self-ticks-gt-LAST-TICK
-returns-then-self-ticks-gt-LAST-TICK g c =
+pub returns-then-self-ticks-gt-LAST_TICK : goal.returns-then-self-ticks-gt-LAST_TICK
+returns-then-self-ticks-gt-LAST_TICK g c =
     let d = c.args.self.now.discipline in
     let ρ = parts g.O.Ranking.may g.P.Ranking.may g.P.Policy.spared d in
     let laws = lawful_parts g.O.Ranking.may g.P.Ranking.may g.P.Policy.spared d (record { total = g.met.O.Ranking.total d.order.0; transitive = g.met.O.Ranking.transitive d.order.0 }) (record { total = g.met.P.Ranking.total d.policy; transitive = g.met.P.Ranking.transitive d.policy }) in
@@ -48,20 +48,20 @@ loop-passed-preserved g c =
     let ρ = parts g.O.Ranking.may g.P.Ranking.may g.P.Policy.spared d in
     let laws = lawful_parts g.O.Ranking.may g.P.Ranking.may g.P.Policy.spared d (record { total = g.met.O.Ranking.total d.order.0; transitive = g.met.O.Ranking.transitive d.order.0 }) (record { total = g.met.P.Ranking.total d.policy; transitive = g.met.P.Ranking.transitive d.policy }) in
     let s = view g.S.ReadyStore.jobs c.args.self.now in
-    let now = state c.in-ok-self.field-0 (g.S.ReadyStore.jobs c.pass-tick.new.ready) (listed c.pass-tick.new.parked) (lines c.pass-tick.new.ended) in
+    let now = state c.in_ok-self.field-0 (g.S.ReadyStore.jobs c.pass_tick.new.ready) (listed c.pass_tick.new.parked) (lines c.pass_tick.new.ended) in
     let was = view g.S.ReadyStore.jobs c.loop-passed.self in
-    let ticked = c.in-ok-self.ensures in
+    let ticked = c.in_ok-self.ensures in
     let same = c.loop-passed.invariant.0 in
     (same, worked_more ρ laws s c.args.ticks was now c.loop-passed.-passed (omega arith) c.loop-passed.invariant.1 ticked.0 (λ f. subst (λ e. tick (parts g.O.Ranking.may g.P.Ranking.may g.P.Policy.spared e) was ≡ now) same (ticked.2 f)))
 
-pub returns-in-err-self : goal.returns-in-err-self
-returns-in-err-self g c =
+pub returns-in_err-self : goal.returns-in_err-self
+returns-in_err-self g c =
     let d = c.args.self.now.discipline in
     let ρ = parts g.O.Ranking.may g.P.Ranking.may g.P.Policy.spared d in
     let laws = lawful_parts g.O.Ranking.may g.P.Ranking.may g.P.Policy.spared d (record { total = g.met.O.Ranking.total d.order.0; transitive = g.met.O.Ranking.transitive d.order.0 }) (record { total = g.met.P.Ranking.total d.policy; transitive = g.met.P.Ranking.transitive d.policy }) in
     let s = view g.S.ReadyStore.jobs c.args.self.now in
-    let p = err_from_is_err_and c.from-residual.result c.from-residual.ensures.1 in
-    rw p.1 (record { same = c.loop-passed.invariant.0; serves = work_stuck ρ laws s c.args.ticks (omega arith) (omega arith) (omega arith) (view g.S.ReadyStore.jobs c.loop-passed.self) c.loop-passed.-passed c.loop-passed.invariant.1 (omega arith) _ _ c.in-err-self.ensures })
+    let p = err_from_is_err_and c.from_residual.result c.from_residual.ensures.1 in
+    rw p.1 (record { same = c.loop-passed.invariant.0; serves = work_stuck ρ laws s c.args.ticks (omega arith) (omega arith) (omega arith) (view g.S.ReadyStore.jobs c.loop-passed.self) c.loop-passed.-passed c.loop-passed.invariant.1 (omega arith) _ _ c.in_err-self.ensures })
 
 pub returns : goal.returns
 returns g c =

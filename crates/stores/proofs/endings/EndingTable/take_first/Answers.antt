@@ -2,10 +2,10 @@ use Rattle.std.proofs.Common.{refl, ◌∙◌, arith}
 use Rattle.stores.proofs.Fronts.{same_size, first_taken}
 use Rattle.stores.proofs.endings.EndingTable.take_first.Goals as goal
 
-pub invariant-of-self-2 : goal.invariant-of-self-2
-invariant-of-self-2 c = (same_size c.args.self.now.endings c.take-out.new.list _ c.take-out.auto.list ∙ c.args.self.now.sized, (omega arith, tt))
+pub invariant_of-self-2 : goal.invariant_of-self-2
+invariant_of-self-2 c = (same_size c.args.self.now.endings c.take_out.new.list _ c.take_out.auto.list ∙ c.args.self.now.sized, (omega arith, tt))
 
 pub returns : goal.returns
 returns c =
-    let out = c.in-ok-ending.ensures in
-    first_taken c.args.self.now.endings c.args.self.now.count (omega arith) c.in-ok-ending.ending c.take-out.new.list _ (omega arith) refl out.1 out.2
+    let out = c.in_ok-ending.ensures in
+    first_taken c.args.self.now.endings c.args.self.now.count (omega arith) c.in_ok-ending.ending c.take_out.new.list _ (omega arith) refl out.1 out.2

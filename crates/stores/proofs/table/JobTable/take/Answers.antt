@@ -2,16 +2,16 @@ use Rattle.std.proofs.Common.{refl, ◌∙◌, arith}
 use Rattle.stores.proofs.Fronts.{same_size, taken_is, taken_read}
 use Rattle.stores.proofs.table.JobTable.take.Goals as goal
 
-pub invariant-of-self-2 : goal.invariant-of-self-2
-invariant-of-self-2 c = (same_size c.args.self.now.jobs c.take-out.new.list _ c.take-out.auto.list ∙ c.args.self.now.sized, (omega arith, tt))
+pub invariant_of-self-2 : goal.invariant_of-self-2
+invariant_of-self-2 c = (same_size c.args.self.now.jobs c.take_out.new.list _ c.take_out.auto.list ∙ c.args.self.now.sized, (omega arith, tt))
 
 pub returns : goal.returns
 returns c =
     let table = c.args.self.now.jobs in
     let count = c.args.self.now.count in
-    let out = c.in-ok-job.ensures in
+    let out = c.in_ok-job.ensures in
     record {
-      job = taken_read table count (omega arith) c.args.place c.in-ok-job.job _ c.if-place-count.false refl out.1;
-      list = taken_is table count (omega arith) c.args.place c.in-ok-job.job c.take-out.new.list _ c.if-place-count.false refl out.2;
+      job = taken_read table count (omega arith) c.args.place c.in_ok-job.job _ c.if-place-count.false refl out.1;
+      list = taken_is table count (omega arith) c.args.place c.in_ok-job.job c.take_out.new.list _ c.if-place-count.false refl out.2;
       same = tt;
     }

@@ -11,14 +11,14 @@ loop-place-init c =
 pub loop-place-preserved : goal.loop-place-preserved
 loop-place-preserved c =
     let inv = c.loop-place.invariant in
-    let step = c.in-ok-table.ensures in (
+    let step = c.in_ok-table.ensures in (
       omega (arith, ap (λ w. w.start) step.1, inv.0),
       omega (arith, ap (λ w. w.jobs) step.1),
       filled_more _ c.args.jobs.now _ _ _ _ _ _ _ _ c.loop-place-test.true (omega arith) inv.2 inv.0 (ap (λ w. w.sum) step.1) step.2,
     )
 
-pub returns-in-err-table : goal.returns-in-err-table
-returns-in-err-table c = absurd (omega (arith, c.in-err-table.ensures.1))
+pub returns-in_err-table : goal.returns-in_err-table
+returns-in_err-table c = absurd (omega (arith, c.in_err-table.ensures.1))
 
 pub returns : goal.returns
 returns c = (
