@@ -3,7 +3,7 @@ use Rattle.stores.proofs.Fronts.{same_size, first_taken}
 use Rattle.stores.proofs.endings.EndingTable.take_first.Goals as goal
 
 pub invariant_of-self-2 : goal.invariant_of-self-2
-invariant_of-self-2 c = (same_size c.args.self.now.endings c.take_out.new.list _ c.take_out.auto.list ∙ c.args.self.now.sized, (omega arith, tt))
+invariant_of-self-2 c = record { sized = same_size c.args.self.now.endings c.take_out.new.list _ c.take_out.auto.list ∙ c.args.self.now.sized; short = omega arith }
 
 pub returns : goal.returns
 returns c =

@@ -3,7 +3,7 @@ use Rattle.stores.proofs.Fronts.{same_size, put_is}
 use Rattle.stores.proofs.table.JobTable.insert_at.Goals as goal
 
 pub invariant_of-self-2 : goal.invariant_of-self-2
-invariant_of-self-2 c = (same_size c.args.self.now.jobs c.put_in.new.slots _ c.put_in.auto.slots ∙ c.args.self.now.sized, (omega arith, tt))
+invariant_of-self-2 c = record { sized = same_size c.args.self.now.jobs c.put_in.new.slots _ c.put_in.auto.slots ∙ c.args.self.now.sized; short = omega arith }
 
 pub returns : goal.returns
 returns c =
