@@ -30,11 +30,13 @@ fn write_verdict(text: &mut String, walk: &Timeline) -> Result<(), fmt::Error>
     ensures { OnOk result (string_bytes text.new ≡ string_bytes text.old ++ verdict_of (tally walk.now)) }
 {
     if walk.holds() {
-        return writeln!(text, "holds");
+        writeln!(text, "holds")?;
+        return Ok(());
     }
     let exceeding = walk.exceeding();
     let cause = walk.cause();
-    writeln!(text, "exceeds {exceeding} {cause}")
+    writeln!(text, "exceeds {exceeding} {cause}")?;
+    Ok(())
 }
 
 /// When each job finishes and what it leaves, and whether the table holds.

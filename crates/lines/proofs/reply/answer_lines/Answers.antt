@@ -7,7 +7,7 @@ use Rattle.lines.proofs.reply.answer_lines.Goals as goal
 
 pub loop-line-init : goal.loop-line-init
 loop-line-init c =
-    let all : lines_left c.into_iter-line-iterator.result ≡ lines c.args.input.now = ap lines_left c.into_iter-line-iterator.ensures.into_iter-gives ∙ c.new-line-items.ensures in
+    let all : lines_left c.into_iter-line-iterator.result ≡ lines c.args.input.now = ap lines_left c.into_iter-line-iterator.ensures.into_iter_gives ∙ c.new-line-items.ensures in
     (tt, tt, turns_none (lines c.args.input.now) (string_bytes c.args.text.now) _ _ all c.requires.new (omega (arith, lines_few c.args.input.now, c.requires.short)))
 
 pub answer_line-requires : goal.answer_line-requires

@@ -8,7 +8,7 @@ use Rattle.tables.proofs.reading.read.Goals as goal
 
 pub loop-line-init : goal.loop-line-init
 loop-line-init c =
-    let all : lines_left c.into_iter-line-iterator.result ≡ lines c.args.input.now = ap lines_left c.into_iter-line-iterator.ensures.into_iter-gives ∙ c.new-line-items.ensures in (
+    let all : lines_left c.into_iter-line-iterator.result ≡ lines c.args.input.now = ap lines_left c.into_iter-line-iterator.ensures.into_iter_gives ∙ c.new-line-items.ensures in (
       tt,
       tt,
       omega (arith, ap length all, lines_few c.args.input.now),
