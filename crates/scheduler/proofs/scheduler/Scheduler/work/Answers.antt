@@ -52,7 +52,7 @@ loop-passed-preserved g c =
     let was = view g.S.ReadyStore.jobs c.loop-passed.self in
     let ticked = c.in_ok-self.ensures in
     let same = c.loop-passed.invariant.0 in
-    (same, worked_more ρ laws s c.args.ticks was now c.loop-passed.-passed (omega arith) c.loop-passed.invariant.1 ticked.0 (λ f. subst (λ e. tick (parts g.O.Ranking.may g.P.Ranking.may g.P.Policy.spared e) was ≡ now) same (ticked.2 f)))
+    (same, worked_more ρ laws s c.args.ticks was now c.loop-passed._passed (omega arith) c.loop-passed.invariant.1 ticked.0 (λ f. subst (λ e. tick (parts g.O.Ranking.may g.P.Ranking.may g.P.Policy.spared e) was ≡ now) same (ticked.2 f)))
 
 pub returns-in_err-self : goal.returns-in_err-self
 returns-in_err-self g c =
@@ -61,7 +61,7 @@ returns-in_err-self g c =
     let laws = lawful_parts g.O.Ranking.may g.P.Ranking.may g.P.Policy.spared d (record { total = g.met.O.Ranking.total d.order.0; transitive = g.met.O.Ranking.transitive d.order.0 }) (record { total = g.met.P.Ranking.total d.policy; transitive = g.met.P.Ranking.transitive d.policy }) in
     let s = view g.S.ReadyStore.jobs c.args.self.now in
     let p = err_from_is_err_and c.from_residual.result c.from_residual.ensures.1 in
-    rw p.1 (record { same = c.loop-passed.invariant.0; serves = work_stuck ρ laws s c.args.ticks (omega arith) (omega arith) (omega arith) (view g.S.ReadyStore.jobs c.loop-passed.self) c.loop-passed.-passed c.loop-passed.invariant.1 (omega arith) _ _ c.in_err-self.ensures })
+    rw p.1 (record { same = c.loop-passed.invariant.0; serves = work_stuck ρ laws s c.args.ticks (omega arith) (omega arith) (omega arith) (view g.S.ReadyStore.jobs c.loop-passed.self) c.loop-passed._passed c.loop-passed.invariant.1 (omega arith) _ _ c.in_err-self.ensures })
 
 pub returns : goal.returns
 returns g c =
@@ -69,4 +69,4 @@ returns g c =
     let ρ = parts g.O.Ranking.may g.P.Ranking.may g.P.Policy.spared d in
     let laws = lawful_parts g.O.Ranking.may g.P.Ranking.may g.P.Policy.spared d (record { total = g.met.O.Ranking.total d.order.0; transitive = g.met.O.Ranking.transitive d.order.0 }) (record { total = g.met.P.Ranking.total d.policy; transitive = g.met.P.Ranking.transitive d.policy }) in
     let s = view g.S.ReadyStore.jobs c.args.self.now in
-    record { same = c.loop-passed.invariant.0; serves = work_did ρ laws s c.args.ticks (omega arith) (omega arith) (omega arith) (view g.S.ReadyStore.jobs c.loop-passed.self) c.loop-passed.-passed c.loop-passed.invariant.1 (omega arith) }
+    record { same = c.loop-passed.invariant.0; serves = work_did ρ laws s c.args.ticks (omega arith) (omega arith) (omega arith) (view g.S.ReadyStore.jobs c.loop-passed.self) c.loop-passed._passed c.loop-passed.invariant.1 (omega arith) }

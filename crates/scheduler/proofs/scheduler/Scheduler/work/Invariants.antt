@@ -9,4 +9,4 @@ invariant-loop-passed g l =
     let d = l.initial.self.discipline in
     let view_of = view g.S.ReadyStore.jobs in
     (l.self.discipline ≡ d)
-    × Worked (parts g.O.Ranking.may g.P.Ranking.may g.P.Policy.spared d) (view_of l.initial.self) l.ticks (view_of l.self) l.-passed
+    × Worked (parts g.O.Ranking.may g.P.Ranking.may g.P.Policy.spared d) (view_of l.initial.self) l.ticks (view_of l.self) l._passed
