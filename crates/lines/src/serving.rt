@@ -101,7 +101,8 @@ fn write_profile(text: &mut String, scheduler: &LoadScheduler) -> Result<(), fmt
     let mut table = [blank; CAPACITY];
     let count = scheduler.profile(&mut table).unwrap();
     if count == 0 {
-        return writeln!(text, "idle");
+        writeln!(text, "idle")?;
+        return Ok(());
     }
     write_entries(text, &table[..count])
 }
@@ -118,9 +119,15 @@ pub fn answer_line(
     ensures state { seen scheduler.new ≡ after plain (seen scheduler.old) (line_calls line.now) }
 {
     match numbered(serve_line(scheduler, line), number) {
-        Ok(Some(Response::Said(said))) => writeln!(text, "{said}"),
+        Ok(Some(Response::Said(said))) => {
+            writeln!(text, "{said}")?;
+            Ok(())
+        }
         Ok(Some(Response::Profile)) => write_profile(text, scheduler),
         Ok(None) => Ok(()),
-        Err(fault) => writeln!(text, "{fault}"),
+        Err(fault) => {
+            writeln!(text, "{fault}")?;
+            Ok(())
+        }
     }
 }
