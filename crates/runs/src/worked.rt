@@ -6,6 +6,7 @@ use rankings::policies::{ByValue, Shelter};
 use scheduler::calls::{Answer, Call};
 use scheduler::scheduler::Scheduler;
 use std::process::Abort;
+use std::test::Fail;
 use stores::row::Row;
 use timing::entry::Entry;
 
