@@ -1,5 +1,5 @@
 -- The first ready job worked for one tick: it gets shorter or, at its last tick, ends.
-use Rattle.std.proofs.Common.{◌≡◌, ℕ, ◌+◌, ◌-◌, ◌<◌, ◌≤◌, Bool, true, false, cond, eqb, leb, List, [], ◌∷◌, length, get_or, set, Ok, Err, sym, refl, ap, ◌∙◌, arith}
+use Rattle.std.proofs.Common.{◌≡◌, ℕ, ◌-◌, ◌<◌, ◌≤◌, true, false, eqb, List, [], ◌∷◌, length, get_or, Ok, Err, sym, refl, ap, ◌∙◌, arith}
 use Rattle.std.proofs.lemmas.Bool.{cond-true, cond-false, eq-eqb, ne_eqb, and_from, lt-ltb, le-leb}
 use Rattle.std.specs.List.{remove, AllByRecursion as All}
 use Rattle.jobs.specs.Records.{blank}
@@ -8,9 +8,9 @@ use Rattle.jobs.specs.declared.ending.Ending.{Ending}
 use Rattle.jobs.specs.declared.job.Job.{Job}
 use Rattle.jobs.specs.declared.refusal.Refusal.{Refusal}
 use Rattle.rankings.specs.Ranked.{insert}
-use Rattle.rules.specs.Calls.{ends, shorter, worked, last_tick}
+use Rattle.rules.specs.Calls.{ends, shorter}
 use Rattle.rules.specs.States.{State, ended_order}
-use Rattle.stores.specs.Places.{set_at, with_remaining}
+use Rattle.stores.specs.Places.{set_at}
 use Rattle.admission.specs.Steps.{state, Lasting, FirstWorked}
 use Rattle.admission.proofs.Reading.{never}
 

@@ -1,12 +1,12 @@
 -- One tick, put together from its steps; where the fields are in their ranges none of them is refused.
-use Rattle.std.proofs.Common.{◌≡◌, ℕ, ◌+◌, ◌<◌, ◌≤◌, Bool, true, false, cond, List, [], ◌∷◌, ◌++◌, length, sym, refl, ap, ◌∙◌, subst, arith}
+use Rattle.std.proofs.Common.{◌≡◌, ℕ, ◌+◌, ◌≤◌, Bool, true, false, cond, List, length, sym, ap, ◌∙◌, subst, arith}
 use Rattle.std.proofs.ByRecursion.{All-weaker}
 use Rattle.std.specs.List.{AllByRecursion as All}
 use Rattle.jobs.specs.declared.ending.Ending.{Ending}
 use Rattle.jobs.specs.declared.job.Job.{Job}
 use Rattle.rules.proofs.Fields.{fields_worked, fields_expired}
 use Rattle.rules.specs.Calls.{worked, last_tick, expire, tick}
-use Rattle.rules.specs.Giving.{Swept, sweep, swept}
+use Rattle.rules.specs.Giving.{sweep, swept}
 use Rattle.rules.specs.Ranges.{JobInRange, Fields}
 use Rattle.rules.specs.States.{Parts, LawfulParts, State}
 use Rattle.admission.specs.Steps.{state, lists, Lasting, FirstWorked}

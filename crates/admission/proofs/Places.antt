@@ -1,5 +1,5 @@
 -- A job put in at the place that a trial found stands where the order puts it.
-use Rattle.std.proofs.Common.{◌≡◌, ℕ, ◌≤◌, Bool, true, false, leb, List, length, Ok, Err, sym, ap, ◌∙◌, inl, inr, arith}
+use Rattle.std.proofs.Common.{◌≡◌, ℕ, ◌≤◌, Bool, true, leb, List, length, Ok, Err, sym, ap, ◌∙◌, inl, inr, arith}
 use Rattle.rankings.proofs.Placing.{place_within, insert_is}
 use Rattle.rankings.specs.Ranked.{insert, place_of}
 use Rattle.std.proofs.lemmas.Bool.{cases_Bool, leb-true, leb-false, cond-true, cond-false, le-ltb}

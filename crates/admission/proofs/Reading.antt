@@ -5,7 +5,7 @@ use Rattle.std.specs.List.{insert, remove}
 use Rattle.jobs.specs.Records.{blank}
 use Rattle.jobs.specs.declared.job.Job.{Job}
 use Rattle.jobs.specs.declared.refusal.Refusal.{Refusal}
-use Rattle.stores.specs.Places.{read_at, insert_at, take_at, set_at, with_remaining, Changes}
+use Rattle.stores.specs.Places.{read_at, insert_at, take_at}
 
 pub never : {A : Type 0} (x : A) (e : Refusal) → ◌≡◌ {A = Result A Refusal} (Ok x) (Err e) → ⊥
 never x e same = let no_way : ◌≡◌ {A = ℕ} 0 1 = cc in omega arith

@@ -5,7 +5,7 @@
 --   call_of q               the words q as a call of the rules
 --   fault_place q e         the place of the word that the refusal e of that call is about, 1 where it is about none
 --   line_calls line         the call that a line makes, if it makes one
-use Rattle.std.specs.Prelude.{◌≡◌, ℕ, ◌+◌, cond, List, [], ◌∷◌, length, drop, Some, None, Ok, Err, Option, Result}
+use Rattle.std.specs.Prelude.{ℕ, ◌+◌, cond, List, [], ◌∷◌, length, drop, Some, None, Ok, Err, Option, Result}
 use Rattle.std.specs.Option.{option_or}
 use Rattle.jobs.specs.declared.refusal.Refusal.{Refusal}
 use Rattle.jobs.specs.declared.refusal.Refusal.TheVariants.{Range, Class as ClassRule, Horizon, Known, Full, Hopeless, Unknown, Waiting, Nothing, Short}

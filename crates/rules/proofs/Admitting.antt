@@ -15,7 +15,7 @@ use Rattle.rules.specs.Giving.{place, fits, sweep, among, without, victims}
 use Rattle.rules.specs.Lists.{insert_all, some, count, Among}
 use Rattle.rules.specs.Promise.{standing, MayGiveWay, ParkedOnlyForWant, StandsAsAnswered, GaveWay, DisplacedLawfully}
 use Rattle.rules.specs.Runs.{arrived, accepts, note, displaced_by}
-use Rattle.rules.specs.States.{Parts, LawfulParts, ready_order, parked_order, State, Arrival, ready, parked, refused, Outcome, answers, has, line_has, known, population}
+use Rattle.rules.specs.States.{Parts, LawfulParts, ready_order, parked_order, State, Arrival, ready, refused, Outcome, answers, has, line_has, known, population}
 use Rattle.rules.proofs.Arriving.{Accepted, fitting, parking}
 use Rattle.rules.proofs.MakingWay.{making_way, parked_from}
 use Rattle.rules.proofs.Fitting.{without_none}

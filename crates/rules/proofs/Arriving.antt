@@ -16,7 +16,6 @@ use Rattle.rules.specs.Runs.{moved}
 use Rattle.rules.specs.States.{Parts, LawfulParts, ready_order, parked_order, State, has}
 use Rattle.rules.proofs.Invariant.{Books, Told, Story, Lasting, Invariant}
 use Rattle.rules.proofs.Keeping.{some_count, count_insert, all_zip, all_both}
-use Rattle.rules.proofs.Naming.{named}
 use Rattle.rules.proofs.Noting.{all_counted, not_some, parked_not_ready, ready_not_parked, ended_not_ready, ended_not_parked, told_at}
 use Rattle.rules.proofs.Orders.{ready_ordered, parked_ordered}
 use Rattle.rules.proofs.Sweeping.{fits_more}

@@ -7,7 +7,6 @@ use Rattle.jobs.specs.declared.ending.EndKind.TheVariants.{InTime, Withdrawn}
 use Rattle.jobs.specs.declared.ending.Ending.{Ending}
 use Rattle.jobs.specs.declared.job.Job.{Job}
 use Rattle.jobs.specs.declared.refusal.Refusal.TheVariants.{Range, Unknown, Waiting}
-use Rattle.jobs.specs.Records.{number}
 use Rattle.rankings.specs.Ranked.{insert}
 use Rattle.rankings.proofs.Placing.{all_insert, insert_sorted}
 use Rattle.rules.specs.Calls.{between, ends, refusing, withdrawn, finish_first, on_finish, on_withdraw, collect_first}

@@ -1,5 +1,5 @@
 -- The ranges of a state: how a sweep, an ending and a tick keep them.
-use Rattle.std.proofs.Common.{◌≡◌, ℕ, ◌+◌, ◌-◌, ◌≤◌, not, eqb, List, [], ◌∷◌, map, length, filter, refl, arith}
+use Rattle.std.proofs.Common.{◌≡◌, ℕ, ◌+◌, ◌≤◌, not, eqb, List, [], ◌∷◌, map, length, filter, refl, arith}
 use Rattle.std.proofs.ByRecursion.{All-weaker}
 use Rattle.std.proofs.lemmas.Bool.{cond_both, eqb-false}
 use Rattle.std.specs.List.{AllByRecursion as All}
@@ -7,13 +7,12 @@ use Rattle.jobs.specs.declared.ending.EndKind.{EndKind}
 use Rattle.jobs.specs.declared.ending.EndKind.TheVariants.{InTime, Missed}
 use Rattle.jobs.specs.declared.ending.Ending.{Ending}
 use Rattle.jobs.specs.declared.job.Job.{Job}
-use Rattle.jobs.specs.Records.{number}
 use Rattle.rankings.proofs.Placing.{all_insert}
 use Rattle.rules.specs.Calls.{ends, shorter, late, worked, last_tick, expire, tick}
 use Rattle.rules.specs.Giving.{sweep, swept}
 use Rattle.rules.specs.Lists.{some}
 use Rattle.rules.specs.Ranges.{JobInRange, LineInRange, Fields}
-use Rattle.rules.specs.States.{Parts, LawfulParts, ended_order, State, gone}
+use Rattle.rules.specs.States.{Parts, LawfulParts, ended_order, State}
 use Rattle.rules.proofs.Keeping.{count_all, all_insert_all, all_kept, all_mapped}
 use Rattle.rules.proofs.Sweeping.{sweep_count, sweep_all_ready, sweep_all_parked}
 use Rattle.rules.proofs.Lengths.{all_of_them, length_insert, length_insert_all, length_split, length_map}

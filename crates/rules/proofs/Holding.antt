@@ -1,5 +1,5 @@
 -- Holding is kept where jobs are left out, start earlier, or finish earlier.
-use Rattle.std.proofs.Common.{◌≡◌, ℕ, ◌+◌, ◌-◌, ◌≤◌, Bool, true, false, leb, List, [], ◌∷◌, filter, refl, inl, inr, arith}
+use Rattle.std.proofs.Common.{◌≡◌, ℕ, ◌+◌, ◌≤◌, Bool, true, false, leb, List, [], ◌∷◌, filter, refl, inl, inr, arith}
 use Rattle.std.proofs.lemmas.Bool.{and_parts, and_from, leb-true, le-leb, cond_both, cases_Bool, both_ways}
 use Rattle.std.specs.List.{AllByRecursion as All}
 use Rattle.jobs.specs.declared.job.Job.{Job}

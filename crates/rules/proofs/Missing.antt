@@ -14,7 +14,7 @@ use Rattle.rules.specs.Calls.{between, refusing, job_of, on_arrive, ends, late, 
 use Rattle.rules.specs.Giving.{swept}
 use Rattle.rules.specs.Lists.{insert_all, some, count, Among}
 use Rattle.rules.specs.Promise.{MissedLate}
-use Rattle.rules.specs.Runs.{nothing_new, moments, tick_moments, work_moments, after, trace}
+use Rattle.rules.specs.Runs.{nothing_new, moments, tick_moments, work_moments, trace}
 use Rattle.rules.specs.States.{Parts, LawfulParts, State, ended_order, Arrival, Call, arrive, work, finish, withdraw, collect, now_at, saved, gone, Outcome, answers, has, line_has, other, pending}
 use Rattle.rules.proofs.Admitting.{arrive_cases, admit_cases}
 use Rattle.rules.proofs.Invariant.{Invariant}

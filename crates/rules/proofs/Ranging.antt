@@ -1,5 +1,5 @@
 -- Every field, the clock and the number of known jobs stay in their ranges, whatever is called.
-use Rattle.std.proofs.Common.{◌≡◌, ℕ, zero, suc, ◌+◌, ◌-◌, ◌<◌, ◌≤◌, Bool, false, cond, not, ltb, leb, List, [], ◌∷◌, length, filter, refl, ap, arith}
+use Rattle.std.proofs.Common.{◌≡◌, ℕ, zero, suc, ◌+◌, ◌<◌, ◌≤◌, Bool, false, cond, not, ltb, leb, List, [], ◌∷◌, length, filter, refl, ap, arith}
 use Rattle.std.proofs.ByRecursion.{All-weaker, All-append}
 use Rattle.std.proofs.lemmas.Bool.{cond_both, and_parts, not-false, leb-true, leb-false, ltb-false}
 use Rattle.std.specs.List.{AllByRecursion as All}
@@ -20,7 +20,7 @@ use Rattle.rules.proofs.Admitting.{arrive_cases, admit_cases, way, own_victims, 
 use Rattle.rules.proofs.Arriving.{Accepted}
 use Rattle.rules.proofs.Invariant.{Lasting, Invariant}
 use Rattle.rules.proofs.Keeping.{all_insert_all, all_kept, all_mapped, all_among}
-use Rattle.rules.proofs.Naming.{named, all_named}
+use Rattle.rules.proofs.Naming.{all_named}
 use Rattle.rules.proofs.Reaching.{serve_keeps, starts, reached}
 use Rattle.rules.proofs.Refusing.{refusing_cases}
 use Rattle.rules.proofs.Ticking.{tick_keeps}

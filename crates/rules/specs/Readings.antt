@@ -5,7 +5,7 @@ use Rattle.timing.specs.Timing.{exceeding, cause}
 use Rattle.rules.specs.Calls.{job_of}
 use Rattle.rules.specs.Giving.{place, fits, without}
 use Rattle.rules.specs.Runs.{after}
-use Rattle.rules.specs.States.{State, start, Arrival, Call, work, finish, ready, parked, saved}
+use Rattle.rules.specs.States.{State, start, Arrival, Call, work, finish, ready, saved}
 use Rattle.rules.specs.Worked.{plain, arrival, hard, answers_of, numbers, after_1}
 
 -- what a list exceeds its limits by with the arrival a, and whether the ready job v makes room for it

@@ -1,5 +1,5 @@
 -- An arrival that is checked and admitted, as the rules say.
-use Rattle.std.proofs.Common.{◌≡◌, List, Ok, Err, Result, sym, refl, ap, ◌∙◌, arith}
+use Rattle.std.proofs.Common.{◌≡◌, List, Ok, Err, Result, ◌∙◌, arith}
 use Rattle.jobs.specs.declared.job.Job.{Job}
 use Rattle.jobs.specs.declared.refusal.Refusal.{Refusal}
 use Rattle.rules.specs.States.{Parts, LawfulParts, State, Arrival, arrive, refused}

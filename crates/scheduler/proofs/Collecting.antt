@@ -1,10 +1,10 @@
 -- The first ending answered and forgotten, as the rules say.
-use Rattle.std.proofs.Common.{◌≡◌, ℕ, List, [], ◌∷◌, Ok, Err, Result, sym, refl, ap, ◌∙◌, arith}
+use Rattle.std.proofs.Common.{◌≡◌, ℕ, List, Ok, Err, Result, sym, ap, ◌∙◌, arith}
 use Rattle.jobs.specs.declared.ending.Ending.{Ending}
 use Rattle.jobs.specs.declared.refusal.Refusal.{Refusal}
 use Rattle.jobs.specs.declared.refusal.Refusal.TheVariants.{Nothing}
-use Rattle.rules.specs.Calls.{collect_first, serve}
-use Rattle.rules.specs.States.{Parts, LawfulParts, State, collect, line, refused, answers}
+use Rattle.rules.specs.Calls.{collect_first}
+use Rattle.rules.specs.States.{Parts, LawfulParts, State, collect, line, refused}
 use Rattle.stores.specs.Tables.{First}
 use Rattle.admission.specs.Steps.{state}
 use Rattle.scheduler.specs.Calling.{on_line}

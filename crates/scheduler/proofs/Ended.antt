@@ -1,14 +1,13 @@
 -- Finish and withdraw, from what is found of the job in the lists to what the call promises.
-use Rattle.std.proofs.Common.{◌≡◌, ℕ, ◌+◌, ◌<◌, ◌≤◌, true, false, List, length, sym, refl, ap, ◌∙◌, subst, arith}
+use Rattle.std.proofs.Common.{◌≡◌, ℕ, ◌+◌, ◌<◌, ◌≤◌, true, false, List, length, sym, ap, ◌∙◌, subst, arith}
 use Rattle.jobs.specs.declared.ending.EndKind.TheVariants.{InTime, Withdrawn}
 use Rattle.jobs.specs.declared.ending.Ending.{Ending}
 use Rattle.jobs.specs.declared.job.Job.{Job}
 use Rattle.jobs.specs.declared.refusal.Refusal.{Refusal}
 use Rattle.jobs.specs.declared.refusal.Refusal.TheVariants.{Range, Unknown, Waiting}
-use Rattle.rules.specs.Calls.{between, serve, on_withdraw}
+use Rattle.rules.specs.Calls.{between, serve}
 use Rattle.rules.specs.Lists.{some}
-use Rattle.rules.specs.Ranges.{InRange}
-use Rattle.rules.specs.States.{Parts, LawfulParts, State, Call, finish, withdraw, Answer, saved, gone, refused, Outcome, answers, has}
+use Rattle.rules.specs.States.{Parts, LawfulParts, State, Call, finish, withdraw, Answer, saved, gone, refused, answers, has}
 use Rattle.stores.specs.Tables.{known}
 use Rattle.admission.proofs.Among.{known_some}
 use Rattle.admission.specs.Steps.{state, Ended, SweptAfter}

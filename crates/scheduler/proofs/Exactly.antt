@@ -1,7 +1,6 @@
 -- From what the steps did to the lists to what the rules say of the call.
-use Rattle.std.proofs.Common.{◌≡◌, ℕ, ◌+◌, ◌<◌, ◌≤◌, Bool, true, false, cond, List, [], ◌∷◌, length, get_or, Ok, Err, sym, refl, ap, ◌∙◌, arith}
+use Rattle.std.proofs.Common.{◌≡◌, ℕ, ◌+◌, ◌≤◌, true, false, List, [], ◌∷◌, get_or, Ok, sym, ap, ◌∙◌, arith}
 use Rattle.std.proofs.lemmas.Bool.{cond_both}
-use Rattle.std.specs.List.{remove}
 use Rattle.jobs.specs.Records.{blank}
 use Rattle.jobs.specs.declared.ending.EndKind.{EndKind}
 use Rattle.jobs.specs.declared.ending.EndKind.TheVariants.{InTime, Withdrawn}
@@ -13,12 +12,11 @@ use Rattle.rules.proofs.Distinct.{Distinct}
 use Rattle.rules.specs.Calls.{between, ends, make_way, give_way, admit, on_arrive, after_ticks, on_work, on_finish, on_withdraw}
 use Rattle.rules.specs.Giving.{among, fits, place, swept, victims}
 use Rattle.rules.specs.Lists.{some, count}
-use Rattle.rules.specs.States.{Parts, ended_order, State, Arrival, Answer, ready, parked, now_at, saved, gone, refused, Outcome, answers, has, pending}
+use Rattle.rules.specs.States.{Parts, ended_order, State, Arrival, ready, parked, now_at, saved, gone, refused, answers, has, pending}
 use Rattle.timing.specs.Timing.{exceeding, cause}
-use Rattle.admission.specs.Steps.{state, told, Ended, SweptAfter}
-use Rattle.admission.specs.declared.admitting.Admission.{Admission}
+use Rattle.admission.specs.Steps.{state, Ended, SweptAfter}
 use Rattle.scheduler.specs.Serving.{checked}
-use Rattle.scheduler.proofs.Answering.{without_ready, without_parked, finish_first_is, withdraw_ready, withdraw_parked, withdraw_gone, work_done}
+use Rattle.scheduler.proofs.Answering.{without_ready, finish_first_is, withdraw_ready, withdraw_parked, withdraw_gone, work_done}
 use Rattle.scheduler.proofs.Checking.{checked_ok}
 use Rattle.scheduler.proofs.Picking.{Found}
 

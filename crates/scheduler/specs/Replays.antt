@@ -1,5 +1,5 @@
 -- What the replay of a list of calls on a new scheduler promises.
-use Rattle.std.specs.Prelude.{◌≡◌, ℕ, ◌<◌, ◌≤◌, Bool, List, map, length, take, drop, Ok, Err, Result}
+use Rattle.std.specs.Prelude.{◌≡◌, ◌<◌, ◌≤◌, Bool, List, map, length, take, drop, Ok, Err, Result}
 use Rattle.jobs.specs.declared.job.Job.{Job}
 use Rattle.jobs.specs.declared.job.Mark.{Mark}
 use Rattle.jobs.specs.declared.refusal.Refusal.{Refusal}

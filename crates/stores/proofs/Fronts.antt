@@ -1,11 +1,11 @@
 -- A list in the front of a table: what reading it, putting a job in, taking one out and writing one come to.
-use Rattle.std.proofs.Common.{◌≡◌, ℕ, zero, suc, ◌+◌, ◌-◌, ◌<◌, ◌≤◌, Bool, true, false, cond, ◌&&◌, ltb, leb, List, [], ◌∷◌, ◌++◌, length, get_or, take, drop, set, Ok, Err, sym, refl, ap, ◌∙◌, append_assoc, arith, length-append, length-drop, length-take, get_or-take}
+use Rattle.std.proofs.Common.{◌≡◌, ℕ, zero, suc, ◌+◌, ◌-◌, ◌<◌, ◌≤◌, ◌&&◌, ltb, leb, List, [], ◌∷◌, ◌++◌, length, get_or, take, drop, set, Ok, Err, sym, refl, ap, ◌∙◌, append_assoc, arith, length-append, length-drop, length-take, get_or-take}
 use Rattle.std.proofs.lemmas.List.Edits.{length-remove}
 use Rattle.std.proofs.lemmas.List.{take_at as front_at, drop_more, get_or_default}
-use Rattle.std.proofs.lemmas.Bool.{cond-true, cond-false, lt-ltb, le-ltb, lt-leb, le-leb, and_from, and_left, and_right}
+use Rattle.std.proofs.lemmas.Bool.{cond-true, cond-false, lt-ltb, le-ltb, lt-leb, le-leb, and_from, and_right}
 use Rattle.std.specs.List.{insert, remove}
 use Rattle.jobs.specs.declared.job.Job.{Job}
-use Rattle.jobs.specs.declared.refusal.Refusal.TheVariants.{Range, Full}
+use Rattle.jobs.specs.declared.refusal.Refusal.TheVariants.{Range}
 use Rattle.jobs.specs.Records.{blank}
 use Rattle.rankings.proofs.Rotating.{front_put, list_after}
 use Rattle.stores.specs.Places.{read_at, insert_at, take_at, with_remaining, set_at, with_by, name_at}

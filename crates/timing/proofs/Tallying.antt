@@ -1,5 +1,5 @@
 -- What a walk counts is what the list's finishing times say.
-use Rattle.std.proofs.Common.{◌≡◌, ℕ, ◌+◌, ◌-◌, ◌<◌, ◌≤◌, max, cond, eqb, ltb, leb, List, [], ◌∷◌, length, get_or, drop, pos, ◌+ℤ◌, ◌≤ℤ◌, Ok, Err, Decides, Result, sym, refl, ap, ◌∙◌, arith}
+use Rattle.std.proofs.Common.{◌≡◌, ℕ, ◌+◌, ◌<◌, ◌≤◌, max, cond, eqb, ltb, leb, List, [], ◌∷◌, length, get_or, drop, pos, ◌+ℤ◌, ◌≤ℤ◌, Ok, Err, Decides, Result, sym, refl, ap, ◌∙◌, arith}
 use Rattle.std.proofs.lemmas.List.{at_drop_more, at_drop_all}
 use Rattle.std.proofs.lemmas.Int.{ints}
 use Rattle.std.proofs.lemmas.Bool.{leb-true, le-leb}
@@ -9,7 +9,7 @@ use Rattle.jobs.specs.declared.job.Job.{Job}
 use Rattle.jobs.specs.declared.refusal.Refusal.{Refusal}
 use Rattle.jobs.specs.Records.{limit, residual, excess}
 use Rattle.timing.specs.Tallies.{Tally, fresh, counted, counted_all, Step, Walked}
-use Rattle.timing.specs.Timing.{finish, holds, exceeding, first_by, cause, AllInTime, entry}
+use Rattle.timing.specs.Timing.{finish, holds, exceeding, first_by, AllInTime, entry}
 
 -- the tick at which the next job begins
 abbrev from : Tally → ℕ

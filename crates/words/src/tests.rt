@@ -56,7 +56,7 @@ fn an_empty_line_has_no_words(rt: HostRuntime) -> Result<(), Fail> {
 #[test]
 fn a_last_newline_opens_a_last_line(rt: HostRuntime) -> Result<(), Fail> {
     let mut lines = Lines::new(b"a\n\nb\n");
-    assert!(rt; lines.next().ok_or("no line")? == b"a");
+    assert_eq!(rt; lines.next().ok_or("no line")?, b"a".as_slice());
     assert_eq!(rt; lines.count(), 3);
     assert_eq!(rt; Lines::new(b"").count(), 1);
     Ok(())

@@ -1,5 +1,4 @@
 use Rattle.std.proofs.Common.{refl}
-use Rattle.rankings.specs.Ranked.{before}
 use Rattle.rules.proofs.run_past_a_deadline.Goals as goal
 
 pub returns : goal.returns

@@ -1,5 +1,5 @@
-use Rattle.std.proofs.Common.{◌≡◌, ◌<◌, length, get_or, sym, ap, ◌∙◌, arith}
-use Rattle.jobs.specs.Records.{number, blank}
+use Rattle.std.proofs.Common.{◌<◌, length, ap, ◌∙◌, arith}
+use Rattle.jobs.specs.Records.{number}
 use Rattle.admission.proofs.Reading.{read_job}
 use Rattle.admission.proofs.Seeking.{sought_more, sought_all}
 use Rattle.admission.proofs.closing.find.Goals as goal

@@ -1,6 +1,6 @@
-use Rattle.std.proofs.Common.{◌≡◌, ◌<◌, ◌≤◌, length, get_or, sym, refl, ap, ◌∙◌, arith}
+use Rattle.std.proofs.Common.{◌≡◌, ◌<◌, length, get_or, sym, ap, ◌∙◌, arith}
 use Rattle.std.proofs.lemmas.Result.{err_from_is_err_and}
-use Rattle.jobs.specs.Records.{number, blank}
+use Rattle.jobs.specs.Records.{blank}
 use Rattle.stores.specs.Tables.{listed}
 use Rattle.rules.specs.Giving.{place, fits}
 use Rattle.rules.specs.States.{ready_order}

@@ -1,6 +1,5 @@
-use Rattle.std.proofs.Common.{◌≡◌, ◌-◌, ◌<◌, ◌≤◌, length, get_or, Ok, Err, sym, refl, ap, ◌∙◌, subst, arith}
+use Rattle.std.proofs.Common.{◌-◌, ◌<◌, length, sym, ap, ◌∙◌, arith}
 use Rattle.std.proofs.lemmas.Result.{err_from_is_err_and}
-use Rattle.jobs.specs.Records.{blank}
 use Rattle.jobs.specs.declared.ending.EndKind.TheVariants.{InTime}
 use Rattle.rankings.specs.Ranked.{insert}
 use Rattle.rules.specs.Calls.{ends}

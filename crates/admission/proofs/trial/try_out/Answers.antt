@@ -1,10 +1,10 @@
-use Rattle.std.proofs.Common.{◌≡◌, ◌<◌, true, false, cond, length, get_or, sym, refl, ap, ◌∙◌, arith}
+use Rattle.std.proofs.Common.{◌≡◌, ◌<◌, true, false, length, get_or, sym, refl, ap, ◌∙◌, arith}
 use Rattle.std.proofs.lemmas.Result.{err_from_is_err_and}
 use Rattle.jobs.specs.Records.{number, blank}
 use Rattle.rankings.specs.Ranked.{before}
 use Rattle.rankings.specs.Rankings.{by_mark}
 use Rattle.rules.specs.Giving.{among, without}
-use Rattle.admission.specs.Trials.{turn, passed, put}
+use Rattle.admission.specs.Trials.{turn, passed}
 use Rattle.admission.proofs.Among.{known_some}
 use Rattle.admission.proofs.Reading.{read_job}
 use Rattle.admission.proofs.Trying.{begun, run, closed, close_put, close_placed, try_skip, try_pass, try_all, try_full, try_full_last, tried}

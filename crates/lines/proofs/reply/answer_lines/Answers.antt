@@ -1,7 +1,6 @@
-use Rattle.std.proofs.Common.{◌≡◌, ◌+◌, ◌∷◌, string_bytes, sym, ap, ◌∙◌, arith}
+use Rattle.std.proofs.Common.{◌≡◌, ◌∷◌, string_bytes, ap, ◌∙◌, arith}
 use Rattle.words.specs.Bytes.{lines}
 use Rattle.words.specs.Readers.{lines_left}
-use Rattle.lines.specs.Forms.{seen}
 use Rattle.lines.proofs.Turns.{lines_few, turns_none, turns_range, turns_more, turns_all}
 use Rattle.lines.proofs.reply.answer_lines.Goals as goal
 

@@ -1,4 +1,4 @@
-use Rattle.std.proofs.Common.{◌≡◌, get_or, sym, ap, ◌∙◌}
+use Rattle.std.proofs.Common.{sym, ap, ◌∙◌}
 use Rattle.stores.proofs.Knowing.{known_here, known_more, known_none}
 use Rattle.stores.proofs.lookup.has_number.Goals as goal
 

@@ -1,10 +1,9 @@
-use Rattle.std.proofs.Common.{◌≡◌, sym, refl, ap, ◌∙◌, arith}
+use Rattle.std.proofs.Common.{sym, refl}
 use Rattle.std.proofs.lemmas.Result.{err_from_is_err_and}
-use Rattle.rules.specs.States.{arrive}
 use Rattle.stores.specs.Tables.{listed}
 use Rattle.admission.proofs.Lawful.{lawful_parts}
 use Rattle.admission.specs.Disciplines.{parts}
-use Rattle.scheduler.specs.Calling.{asked, on_admission}
+use Rattle.scheduler.specs.Calling.{asked}
 use Rattle.scheduler.specs.Keeping.{view}
 use Rattle.scheduler.proofs.Arriving.{arrived, not_accepted}
 use Rattle.scheduler.proofs.scheduler.Scheduler.arrive.Goals as goal

@@ -1,9 +1,7 @@
-use Rattle.std.proofs.Common.{◌≡◌, refl}
-use Rattle.rules.specs.States.{collect}
+use Rattle.std.proofs.Common.{refl}
 use Rattle.stores.specs.Tables.{lines}
 use Rattle.admission.proofs.Lawful.{lawful_parts}
 use Rattle.admission.specs.Disciplines.{parts}
-use Rattle.scheduler.specs.Calling.{on_line}
 use Rattle.scheduler.specs.Keeping.{view}
 use Rattle.scheduler.proofs.Collecting.{collected}
 use Rattle.scheduler.proofs.scheduler.Scheduler.collect.Goals as goal
