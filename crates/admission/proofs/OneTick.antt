@@ -1,7 +1,7 @@
 -- One tick, put together from its steps; where the fields are in their ranges none of them is refused.
 use Rattle.std.proofs.Common.{◌≡◌, ℕ, ◌+◌, ◌≤◌, Bool, true, false, cond, List, length, sym, ap, ◌∙◌, subst, arith}
 use Rattle.std.proofs.ByRecursion.{All-weaker}
-use Rattle.std.specs.List.{AllByRecursion as All}
+use Rattle.std.specs.List.{AllByRecursion as Every}
 use Rattle.jobs.specs.declared.ending.Ending.{Ending}
 use Rattle.jobs.specs.declared.job.Job.{Job}
 use Rattle.rules.proofs.Fields.{fields_worked, fields_expired}
@@ -11,7 +11,7 @@ use Rattle.rules.specs.Ranges.{JobInRange, Fields}
 use Rattle.rules.specs.States.{Parts, LawfulParts, State}
 use Rattle.admission.specs.Steps.{state, lists, Lasting, FirstWorked}
 
-pub all_lasting : (s : State) → Fields s → All Lasting s.ready
+pub all_lasting : (s : State) → Fields s → Every Lasting s.ready
 all_lasting s f = All-weaker (JobInRange s.clock) Lasting (λ j h. h.remaining) s.ready f.ready
 
 module _ (ρ : Parts) (laws : LawfulParts ρ) (u : ℕ) (rs ps : List Job) (es : List Ending) (f : Fields (state u rs ps es)) where

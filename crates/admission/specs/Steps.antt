@@ -2,7 +2,7 @@
 --
 -- A step that needs room says of a refusal where the room was wanting, so that whoever has it knows that the step is done.
 use Rattle.std.specs.Prelude.{◌≡◌, ℕ, ◌+◌, ◌<◌, ◌≤◌, Bool, false, List, [], ◌∷◌, length, take, Some, None, Ok, Err, Option, Result, slice_index_or}
-use Rattle.std.specs.List.{remove, AllByRecursion as All}
+use Rattle.std.specs.List.{remove, AllByRecursion as Every}
 use Rattle.jobs.specs.Records.{number, blank}
 use Rattle.jobs.specs.declared.ending.EndKind.{EndKind}
 use Rattle.jobs.specs.declared.ending.Ending.{Ending}
@@ -142,8 +142,8 @@ abbrev pub Lasting : Job → Type 0
 Lasting j = (1 ≤ j.remaining) × (j.remaining ≤ j.computation)
 
 abbrev pub WorksFirst : ℕ → List Job → List Ending → List Job → List Ending → Result Bool Refusal → Type 0
-WorksFirst t rs es rs' es' (Ok done) = All Lasting rs → FirstWorked t rs es rs' es' done
-WorksFirst t rs es rs' es' (Err e) = All Lasting rs → 64 < length rs + length es
+WorksFirst t rs es rs' es' (Ok done) = Every Lasting rs → FirstWorked t rs es rs' es' done
+WorksFirst t rs es rs' es' (Err e) = Every Lasting rs → 64 < length rs + length es
 
 abbrev pub Ticks : Parts → ℕ → List Job → List Job → List Ending → List Job → List Job → List Ending → Result ℕ Refusal → Type 0
 Ticks ρ u rs ps es rs' ps' es' (Ok t) = (t ≡ u + 1) × (t ≤ 1000000000) × (Fields (state u rs ps es) → tick ρ (state u rs ps es) ≡ state t rs' ps' es')

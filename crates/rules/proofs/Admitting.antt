@@ -2,7 +2,7 @@
 use Rattle.std.proofs.Common.{◌≡◌, ℕ, ◌+◌, ◌≤◌, Bool, true, false, cond, not, ◌&&◌, ◌||◌, ltb, leb, List, [], ◌∷◌, sym, refl, ap, ◌∙◌, subst, inl, inr, arith}
 use Rattle.std.proofs.ByRecursion.{All-weaker}
 use Rattle.std.proofs.lemmas.Bool.{cases_Bool, cond-false, cond_both, and_parts, or_parts, not-false, eqb-true, leb-true, ltb-true, ltb-false, lt-ltb, both_ways}
-use Rattle.std.specs.List.{AllByRecursion as All}
+use Rattle.std.specs.List.{AllByRecursion as Every}
 use Rattle.jobs.specs.declared.job.Class.{Class}
 use Rattle.jobs.specs.declared.job.Class.TheVariants.{Hard, Critical}
 use Rattle.jobs.specs.declared.job.Job.{Job}
@@ -96,8 +96,8 @@ module _ (ρ : Parts) (laws : LawfulParts ρ) (s : State) (owed : List Job) (see
         no_room = no_room;
       })
 
-  pub own_victims : (j : Job) (v : Job) (rest : List Job) → GivingLaws ρ s j → victims ρ s j ≡ v ∷ rest → All (λ u. Among (λ r. r ≡ u) s.ready) (v ∷ rest)
-  own_victims j v rest g is = subst (All (λ u. Among (λ r. r ≡ u) s.ready)) is g.own
+  pub own_victims : (j : Job) (v : Job) (rest : List Job) → GivingLaws ρ s j → victims ρ s j ≡ v ∷ rest → Every (λ u. Among (λ r. r ≡ u) s.ready) (v ∷ rest)
+  own_victims j v rest g is = subst (Every (λ u. Among (λ r. r ≡ u) s.ready)) is g.own
 
   pub few_victims : (j : Job) (v : Job) (rest : List Job) → GivingLaws ρ s j → victims ρ s j ≡ v ∷ rest → (n : ℕ) → count (has n) (v ∷ rest) ≤ count (has n) s.ready
   few_victims j v rest g is n = subst (λ vs. count (has n) vs ≤ count (has n) s.ready) is (g.once n)

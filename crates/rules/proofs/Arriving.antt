@@ -3,7 +3,7 @@ use Rattle.std.proofs.Common.{◌≡◌, ℕ, ◌+◌, ◌<◌, ◌≤◌, Bool,
 use Rattle.std.proofs.ByRecursion.{All-weaker}
 use Rattle.std.proofs.lemmas.Bool.{cases_Bool, cond-true, cond-false, eq-eqb, eqb-true, and_left, and_right, and_parts, both_ways}
 use Rattle.std.proofs.lemmas.Bool.Decides.{nat_tests}
-use Rattle.std.specs.List.{AllByRecursion as All}
+use Rattle.std.specs.List.{AllByRecursion as Every}
 use Rattle.jobs.specs.declared.ending.Ending.{Ending}
 use Rattle.jobs.specs.declared.job.Job.{Job}
 use Rattle.jobs.specs.Records.{number, limit}
@@ -43,13 +43,13 @@ module _ (ρ : Parts) (laws : LawfulParts ρ) (s : State) (j : Job) (owed : List
   known_still : (k : Job) → Among (SameJob k) owed → Among (SameJob k) (j ∷ owed)
   known_still k h = inr h
 
-  pub lines_still : All (LineOf (j ∷ owed)) s.ended
+  pub lines_still : Every (LineOf (j ∷ owed)) s.ended
   lines_still = All-weaker (LineOf owed) _ (λ e h. inr h) s.ended i.books.lines
 
-  pub ready_known : All (λ k. Among (SameJob k) (j ∷ owed)) s.ready
+  pub ready_known : Every (λ k. Among (SameJob k) (j ∷ owed)) s.ready
   ready_known = All-weaker _ _ known_still s.ready i.books.same_ready
 
-  pub parked_known : All (λ k. Among (SameJob k) (j ∷ owed)) s.parked
+  pub parked_known : Every (λ k. Among (SameJob k) (j ∷ owed)) s.parked
   parked_known = All-weaker _ _ known_still s.parked i.books.same_parked
 
   -- nobody who stood there has the arrival's number
@@ -96,12 +96,12 @@ module _ (ρ : Parts) (laws : LawfulParts ρ) (s : State) (j : Job) (owed : List
       (cond-false (has e.number j) _ _ (not_j e.number stands) ∙ cond-false (moved e.number s s') _ _ (and_right _ _ no_parked))
       h
 
-  ended_stand : All (λ e. 1 ≤ standing e.number s) s.ended
+  ended_stand : Every (λ e. 1 ≤ standing e.number s) s.ended
   ended_stand = All-weaker _ _ (λ e h. omega arith) s.ended (all_counted (λ e. e.number) s.ended)
 
   pub story_now : (rs ps : List Job) →
       let s' : State = record { clock = s.clock; ready = rs; parked = ps; ended = s.ended } in
-      Books s' (j ∷ owed) → All (λ r. r.by ≡ cond (has (number r) j) 0 (last (number r))) rs → All (ParkedStory s') ps → Story s' (seen_now s') (last_now s')
+      Books s' (j ∷ owed) → Every (λ r. r.by ≡ cond (has (number r) j) 0 (last (number r))) rs → Every (ParkedStory s') ps → Story s' (seen_now s') (last_now s')
   story_now rs ps b by_ready by_parked =
       let s' : State = record { clock = s.clock; ready = rs; parked = ps; ended = s.ended } in
       record {
@@ -115,16 +115,16 @@ module _ (ρ : Parts) (laws : LawfulParts ρ) (s : State) (j : Job) (owed : List
   stood_by : (k : Job) → 1 ≤ standing (number k) s → k.by ≡ last (number k) → k.by ≡ cond (has (number k) j) 0 (last (number k))
   stood_by k stands h = h ∙ sym (cond-false (has (number k) j) _ _ (not_j (number k) stands))
 
-  ready_stand : All (λ r. 1 ≤ standing (number r) s) s.ready
+  ready_stand : Every (λ r. 1 ≤ standing (number r) s) s.ready
   ready_stand = All-weaker _ _ (λ r h. omega arith) s.ready (all_counted number s.ready)
 
-  parked_stand : All (λ p. 1 ≤ standing (number p) s) s.parked
+  parked_stand : Every (λ p. 1 ≤ standing (number p) s) s.parked
   parked_stand = All-weaker _ _ (λ p h. omega arith) s.parked (all_counted number s.parked)
 
-  pub by_ready_now : All (λ r. r.by ≡ cond (has (number r) j) 0 (last (number r))) s.ready
+  pub by_ready_now : Every (λ r. r.by ≡ cond (has (number r) j) 0 (last (number r))) s.ready
   by_ready_now = all_zip _ _ _ stood_by s.ready ready_stand i.story.by_ready
 
-  pub by_parked_now : All (λ p. p.by ≡ cond (has (number p) j) 0 (last (number p))) s.parked
+  pub by_parked_now : Every (λ p. p.by ≡ cond (has (number p) j) 0 (last (number p))) s.parked
   by_parked_now = all_zip _ _ _ stood_by s.parked parked_stand i.story.by_parked
 
   own : has (number j) j ≡ true
@@ -134,7 +134,7 @@ module _ (ρ : Parts) (laws : LawfulParts ρ) (s : State) (j : Job) (owed : List
   by_own = ok.fresh ∙ sym (cond-true (has (number j) j) 0 (last (number j)) own)
 
   -- who was parked before and is parked still
-  parked_as_before : (s' : State) → All (ParkedStory s') s.parked
+  parked_as_before : (s' : State) → Every (ParkedStory s') s.parked
   parked_as_before s' =
       all_zip _ _ _ (λ p h k. inr (and_left _ _ h.0, h.1, λ was. k (and_parts (seen (number p)) _ was).0)) s.parked
       (all_both _ _ s.parked (parked_not_ready s owed i.books) by_parked_now) i.story.waits

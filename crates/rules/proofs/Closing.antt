@@ -2,7 +2,7 @@
 use Rattle.std.proofs.Common.{◌≡◌, ℕ, ◌+◌, ◌≤◌, Bool, true, false, cond, not, ◌&&◌, ◌||◌, eqb, List, [], ◌∷◌, filter, sym, refl, ap, ◌∙◌, subst, inl, inr, arith}
 use Rattle.std.proofs.lemmas.Bool.{cond_both, cond-true, cond-false, eq-eqb, ne_eqb, cases_eq, not_from_false}
 use Rattle.std.proofs.lemmas.Bool.Decides.{nat_tests}
-use Rattle.std.specs.List.{AllByRecursion as All}
+use Rattle.std.specs.List.{AllByRecursion as Every}
 use Rattle.jobs.specs.declared.ending.EndKind.TheVariants.{InTime, Withdrawn}
 use Rattle.jobs.specs.declared.ending.Ending.{Ending}
 use Rattle.jobs.specs.declared.job.Job.{Job}
@@ -80,10 +80,10 @@ module _ (ρ : Parts) (laws : LawfulParts ρ) (owed : List Job) (seen : ℕ → 
   -- WITHDRAW
 
   module _ (s : State) (n : ℕ) (i : Invariant ρ s owed seen last) where
-    lines_told : (js : List Job) → All (λ e. Told seen last e e.kind) (withdrawn s.clock n js)
+    lines_told : (js : List Job) → Every (λ e. Told seen last e e.kind) (withdrawn s.clock n js)
     lines_told js = all_mapped (λ e. Told seen last e e.kind) (ends s.clock Withdrawn) (filter (has n) js) (all_of _ (λ _. tt) (filter (has n) js))
 
-    lines_kept : (js : List Job) → All (λ j. Among (SameJob j) owed) js → All Lasting js → All (LineOf owed) (withdrawn s.clock n js)
+    lines_kept : (js : List Job) → Every (λ j. Among (SameJob j) owed) js → Every Lasting js → Every (LineOf owed) (withdrawn s.clock n js)
     lines_kept js same lasting =
         lines_of s.clock Withdrawn owed (filter (has n) js) (all_kept _ (has n) js same) (all_kept Lasting (has n) js lasting) (all_of (EndsWell s.clock Withdrawn) (λ _. tt) (filter (has n) js))
 

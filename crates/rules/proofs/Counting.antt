@@ -3,7 +3,7 @@ use Rattle.std.proofs.Common.{◌≡◌, ℕ, zero, suc, ◌+◌, ◌-◌, ◌�
 use mathlib.Core.Option.{Option, none, some}
 use Rattle.std.proofs.ByRecursion.{All-weaker}
 use Rattle.std.proofs.lemmas.Bool.{and_from, le-leb}
-use Rattle.std.specs.List.{AllByRecursion as All}
+use Rattle.std.specs.List.{AllByRecursion as Every}
 use Rattle.jobs.specs.declared.job.Job.{Job}
 use Rattle.jobs.specs.Records.{number, limit}
 use Rattle.timing.specs.Timing.{holds}
@@ -60,7 +60,7 @@ module _ (q : Plan) (t : ℕ) where
       omega arith
 
   -- `from` is the tick at which the first job of the list begins
-  makes_hold : (sum passed from : ℕ) (js : List Job) → from ≡ t + sum → All (λ j. 1 ≤ j.remaining) js → All (λ j. passed ≤ limit j) js → FollowsLimits js → PlanHolds q t js → Room q t sum passed js → holds from js ≡ true
+  makes_hold : (sum passed from : ℕ) (js : List Job) → from ≡ t + sum → Every (λ j. 1 ≤ j.remaining) js → Every (λ j. passed ≤ limit j) js → FollowsLimits js → PlanHolds q t js → Room q t sum passed js → holds from js ≡ true
   makes_hold sum passed from [] at left later follows served room = refl
   makes_hold sum passed from (j ∷ js) at left later follows served room =
       let more = room_more sum passed j js left.0 later.0 served.0 room in
@@ -68,7 +68,7 @@ module _ (q : Plan) (t : ℕ) where
       let rest = makes_hold (sum + j.remaining) (limit j) (from + j.remaining) js (omega arith) left.1 follows.0 follows.1 served.1 more in
       and_from (leb (from + j.remaining) (limit j)) (holds (from + j.remaining) js) (le-leb (from + j.remaining) (limit j) (omega arith)) rest
 
-pub plan_makes_hold : (q : Plan) (t : ℕ) (js : List Job) → Distinct js → All (λ j. 1 ≤ j.remaining) js → FollowsLimits js → PlanHolds q t js → holds t js ≡ true
+pub plan_makes_hold : (q : Plan) (t : ℕ) (js : List Job) → Distinct js → Every (λ j. 1 ≤ j.remaining) js → FollowsLimits js → PlanHolds q t js → holds t js ≡ true
 plan_makes_hold q t js apart left follows served =
     let start : Room q t 0 0 js = λ e _. let most = ticks_all_most q t (e - t) js apart in omega arith in
     let later = All-weaker (λ j. 1 ≤ j.remaining) (λ j. 0 ≤ limit j) (λ j _. omega arith) js left in

@@ -1,7 +1,7 @@
 -- Enough of the candidates: a front of them that makes room, or none where all together do not.
 use Rattle.std.proofs.Common.{◌≡◌, ℕ, ◌≤◌, Bool, true, false, List, [], ◌∷◌, ◌++◌, filter, sym, refl, ap, ◌∙◌, arith}
 use Rattle.std.proofs.lemmas.Bool.{cond-true, cond_both}
-use Rattle.std.specs.List.{AllByRecursion as All}
+use Rattle.std.specs.List.{AllByRecursion as Every}
 use Rattle.jobs.specs.declared.job.Job.{Job}
 use Rattle.jobs.specs.Records.{number}
 use Rattle.rules.specs.Giving.{fits, without, and_more, enough}
@@ -30,7 +30,7 @@ module _ (ρ : Parts) (t : ℕ) (j : Job) where
       longer v [] vs f = (v ∷ vs, refl)
       longer v (m ∷ ms) vs f = (f.0, ap (λ l. v ∷ l) f.1)
 
-  pub all_enough : (P : Job → Type 0) (rs cs : List Job) → All P cs → All P (enough ρ t j rs cs)
+  pub all_enough : (P : Job → Type 0) (rs cs : List Job) → Every P cs → Every P (enough ρ t j rs cs)
   all_enough P rs cs ps = let f = front rs cs in (all_parts P (enough ρ t j rs cs) f.0 (rw f.1 ps)).0
 
   pub count_enough : (test : Job → Bool) (rs cs : List Job) → count test (enough ρ t j rs cs) ≤ count test cs

@@ -2,7 +2,7 @@
 use Rattle.std.proofs.Common.{◌≡◌, ℕ, ◌+◌, ◌≤◌, not, eqb, List, [], ◌∷◌, map, length, filter, refl, arith}
 use Rattle.std.proofs.ByRecursion.{All-weaker}
 use Rattle.std.proofs.lemmas.Bool.{cond_both, eqb-false}
-use Rattle.std.specs.List.{AllByRecursion as All}
+use Rattle.std.specs.List.{AllByRecursion as Every}
 use Rattle.jobs.specs.declared.ending.EndKind.{EndKind}
 use Rattle.jobs.specs.declared.ending.EndKind.TheVariants.{InTime, Missed}
 use Rattle.jobs.specs.declared.ending.Ending.{Ending}
@@ -69,7 +69,7 @@ module _ (ρ : Parts) (laws : LawfulParts ρ) where
             f.lines;
       }
 
-  pub fields_worked : (s : State) (rs : List Job) → length rs + (length s.parked + length s.ended) ≤ 64 → All (JobInRange s.clock) rs → All (λ j. 1 ≤ j.remaining) rs → All (JobInRange s.clock) s.parked → All (LineInRange s.clock) s.ended → Fields (worked (s.clock + 1) s rs)
+  pub fields_worked : (s : State) (rs : List Job) → length rs + (length s.parked + length s.ended) ≤ 64 → Every (JobInRange s.clock) rs → Every (λ j. 1 ≤ j.remaining) rs → Every (JobInRange s.clock) s.parked → Every (LineInRange s.clock) s.ended → Fields (worked (s.clock + 1) s rs)
   fields_worked s [] few ready some parked lines =
       let t = s.clock in
       record { few = few; ready = tt; parked = All-weaker _ _ (job_later t (t + 1) (omega arith)) s.parked parked; lines = All-weaker _ _ (line_later t (t + 1) (omega arith)) s.ended lines }
@@ -97,7 +97,7 @@ module _ (ρ : Parts) (laws : LawfulParts ρ) where
             by = h.by;
           }
 
-  pub fields_ticked : (s : State) → All (λ j. 1 ≤ j.remaining) s.ready → Fields s → Fields (tick ρ s)
+  pub fields_ticked : (s : State) → Every (λ j. 1 ≤ j.remaining) s.ready → Fields s → Fields (tick ρ s)
   fields_ticked s some f =
       let w = expire (worked (s.clock + 1) s s.ready) in
       let there = fields_expired (worked (s.clock + 1) s s.ready) (fields_worked s s.ready f.few f.ready some f.parked f.lines) in

@@ -2,7 +2,7 @@
 use Rattle.std.proofs.Common.{◌≡◌, ℕ, Bool, true, false, cond, not, ◌&&◌, ◌||◌, List, [], ◌∷◌, filter, sym, refl, ap, ◌∙◌, arith}
 use Rattle.std.proofs.ByRecursion.{All-weaker}
 use Rattle.std.proofs.lemmas.Bool.Decides.{nat_tests}
-use Rattle.std.specs.List.{AllByRecursion as All}
+use Rattle.std.specs.List.{AllByRecursion as Every}
 use Rattle.jobs.specs.declared.job.Job.{Job}
 use Rattle.jobs.specs.Records.{number}
 use Rattle.rankings.specs.Ranked.{Sorted}
@@ -20,7 +20,7 @@ use Rattle.rules.proofs.Ordering.{kept_insert_in}
 
 module _ {A : Type 0} where
   -- two tests that agree on a list keep the same of it
-  pub kept_agree : (p q : A → Bool) (xs : List A) → All (λ x. p x ≡ q x) xs → filter p xs ≡ filter q xs
+  pub kept_agree : (p q : A → Bool) (xs : List A) → Every (λ x. p x ≡ q x) xs → filter p xs ≡ filter q xs
   kept_agree p q [] es = refl
   kept_agree p q (x ∷ xs) es =
       let ih = kept_agree p q xs es.1 in
@@ -45,15 +45,15 @@ without_none (r ∷ rs) = ap (λ l. r ∷ l) (without_none rs)
 pub without_more : (v : Job) (vs rs : List Job) → without vs (filter (other (number v)) rs) ≡ without (v ∷ vs) rs
 without_more v vs rs = kept_twice (λ r. not (among vs r)) (other (number v)) rs ∙ kept_agree _ _ rs (agree rs)
   where
-    agree : (rs : List Job) → All (λ r. (other (number v) r && not (among vs r)) ≡ not (among (v ∷ vs) r)) rs
+    agree : (rs : List Job) → Every (λ r. (other (number v) r && not (among vs r)) ≡ not (among (v ∷ vs) r)) rs
     agree [] = tt
     agree (r ∷ rs) = (grind (arith, nat_tests), agree rs)
 
 -- of two sets the wider alone
-pub without_both : (vs ws rs : List Job) → All (λ v. among ws v ≡ true) vs → without ws (without vs rs) ≡ without ws rs
+pub without_both : (vs ws rs : List Job) → Every (λ v. among ws v ≡ true) vs → without ws (without vs rs) ≡ without ws rs
 without_both vs ws rs each = kept_twice (λ r. not (among ws r)) (λ r. not (among vs r)) rs ∙ kept_agree _ _ rs (agree rs)
   where
-    agree : (rs : List Job) → All (λ r. (not (among vs r) && not (among ws r)) ≡ not (among ws r)) rs
+    agree : (rs : List Job) → Every (λ r. (not (among vs r) && not (among ws r)) ≡ not (among ws r)) rs
     agree [] = tt
     agree (r ∷ rs) = let through = among_through vs ws each r in (grind (arith, nat_tests), agree rs)
 

@@ -1,7 +1,7 @@
 -- Holding is kept where jobs are left out, start earlier, or finish earlier.
 use Rattle.std.proofs.Common.{◌≡◌, ℕ, ◌+◌, ◌≤◌, Bool, true, false, leb, List, [], ◌∷◌, filter, refl, inl, inr, arith}
 use Rattle.std.proofs.lemmas.Bool.{and_parts, and_from, leb-true, le-leb, cond_both, cases_Bool, both_ways}
-use Rattle.std.specs.List.{AllByRecursion as All}
+use Rattle.std.specs.List.{AllByRecursion as Every}
 use Rattle.jobs.specs.declared.job.Job.{Job}
 use Rattle.jobs.specs.Records.{limit}
 use Rattle.rankings.specs.Ranked.{insert}
@@ -44,7 +44,7 @@ holds_insert first t x (j ∷ js) h =
     h
 
 -- each job of a list that holds could be worked at once and still make its limit
-pub holds_each : (t : ℕ) (js : List Job) → holds t js ≡ true → All (λ j. t + j.remaining ≤ limit j) js
+pub holds_each : (t : ℕ) (js : List Job) → holds t js ≡ true → Every (λ j. t + j.remaining ≤ limit j) js
 holds_each t [] h = tt
 holds_each t (j ∷ js) h = (holds_first t j js h, holds_each t js (holds_tail t j js h))
 

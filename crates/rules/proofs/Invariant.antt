@@ -1,6 +1,6 @@
 -- What every reached state keeps, in parts that each change by itself: the books, the story, the times, and that it is full.
 use Rattle.std.proofs.Common.{◌≡◌, ℕ, ◌+◌, ◌<◌, ◌≤◌, Bool, true, false, ◌⊎◌, List}
-use Rattle.std.specs.List.{AllByRecursion as All}
+use Rattle.std.specs.List.{AllByRecursion as Every}
 use Rattle.jobs.specs.declared.ending.EndKind.{EndKind}
 use Rattle.jobs.specs.declared.ending.EndKind.TheVariants.{InTime, Missed, Withdrawn}
 use Rattle.jobs.specs.declared.ending.Ending.{Ending}
@@ -17,9 +17,9 @@ use Rattle.rules.specs.States.{Parts, State, ready_order, parked_order, ended_or
 pub record Books (s : State) (js : List Job) : Type 0 where
   pub each : (n : ℕ) → standing n s ≡ count (has n) js
   pub once : (n : ℕ) → count (has n) js ≤ 1
-  pub same_ready : All (λ j. Among (SameJob j) js) s.ready
-  pub same_parked : All (λ j. Among (SameJob j) js) s.parked
-  pub lines : All (LineOf js) s.ended
+  pub same_ready : Every (λ j. Among (SameJob j) js) s.ready
+  pub same_parked : Every (λ j. Among (SameJob j) js) s.parked
+  pub lines : Every (LineOf js) s.ended
 
 -- the line of a missed job explains itself
 abbrev pub Told : (ℕ → Bool) → (ℕ → ℕ) → Ending → EndKind → Type 0
@@ -29,11 +29,11 @@ Told seen last e Withdrawn = Unit {0}
 
 -- `seen n`: the job n was ready; `last n`: who last displaced it
 pub record Story (s : State) (seen : ℕ → Bool) (last : ℕ → ℕ) : Type 0 where
-  pub by_ready : All (λ j. j.by ≡ last (number j)) s.ready
-  pub by_parked : All (λ j. j.by ≡ last (number j)) s.parked
+  pub by_ready : Every (λ j. j.by ≡ last (number j)) s.ready
+  pub by_parked : Every (λ j. j.by ≡ last (number j)) s.parked
   -- a parked job that was ready has been displaced
-  pub waits : All (λ j. seen (number j) ≡ true → 0 < j.by) s.parked
-  pub told : All (λ e. Told seen last e e.kind) s.ended
+  pub waits : Every (λ j. seen (number j) ≡ true → 0 < j.by) s.parked
+  pub told : Every (λ e. Told seen last e e.kind) s.ended
 
 abbrev pub Lasting : Job → Type 0
 Lasting j = (1 ≤ j.remaining) × (j.remaining ≤ j.computation)
@@ -42,17 +42,17 @@ pub record Times (ρ : Parts) (s : State) : Type 0 where
   pub by_order : Sorted (ready_order ρ) s.ready
   pub by_parking : Sorted (parked_order ρ) s.parked
   pub by_tick : Sorted ended_order s.ended
-  pub lasting_ready : All Lasting s.ready
-  pub lasting_parked : All Lasting s.parked
+  pub lasting_ready : Every Lasting s.ready
+  pub lasting_parked : Every Lasting s.parked
   pub kept : holds s.clock s.ready ≡ true
 
 -- every parked job could still make its limit, were it worked at once
 abbrev pub Can : State → Type 0
-Can s = All (λ p. s.clock + p.remaining ≤ limit p) s.parked
+Can s = Every (λ p. s.clock + p.remaining ≤ limit p) s.parked
 
 -- and none fits
 abbrev pub Full : Parts → State → Type 0
-Full ρ s = All (λ p. fits ρ s.clock s.ready p ≡ false) s.parked
+Full ρ s = Every (λ p. fits ρ s.clock s.ready p ≡ false) s.parked
 
 pub record Invariant (ρ : Parts) (s : State) (js : List Job) (seen : ℕ → Bool) (last : ℕ → ℕ) : Type 0 where
   pub books : Books s js

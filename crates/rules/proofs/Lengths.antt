@@ -2,7 +2,7 @@
 use Rattle.std.proofs.Common.{◌≡◌, ℕ, suc, ◌+◌, ◌≤◌, Bool, true, false, cond, not, ltb, List, [], ◌∷◌, map, length, filter, sym, refl, ap, ◌∙◌, inl, inr, arith}
 use Rattle.std.proofs.lemmas.Bool.{cases_Bool, eq-eqb, ne_eqb, eqb-true, eqb-false}
 use Rattle.std.proofs.lemmas.Bool.Decides.{nat_tests}
-use Rattle.std.specs.List.{AllByRecursion as All}
+use Rattle.std.specs.List.{AllByRecursion as Every}
 use Rattle.jobs.specs.declared.job.Job.{Job}
 use Rattle.jobs.specs.Records.{number}
 use Rattle.rankings.specs.Ranked.{insert}
@@ -47,7 +47,7 @@ module _ (ready : List Job) (distinct : (n : ℕ) → count (has n) ready ≤ 1)
             grind (arith, nat_tests)
       ]
 
-  leavers : (vs : List Job) → All (λ v. Among (λ r. r ≡ v) ready) vs → ((n : ℕ) → count (has n) vs ≤ 1) → length vs ≤ count (among vs) ready
+  leavers : (vs : List Job) → Every (λ v. Among (λ r. r ≡ v) ready) vs → ((n : ℕ) → count (has n) vs ≤ 1) → length vs ≤ count (among vs) ready
   leavers [] own once = omega arith
   leavers (v ∷ vs) own once =
       let alone : count (has (number v)) vs ≡ 0 = let here = once (number v) in omega (arith, count_own v vs) in
@@ -56,7 +56,7 @@ module _ (ready : List Job) (distinct : (n : ℕ) → count (has n) ready ≤ 1)
       let there = counted (has (number v)) (λ r. r ≡ v) (λ r is. eq-eqb (number r) (number v) (ap number is)) ready own.0 in
       omega arith
 
-  pub room_left : (vs : List Job) → All (λ v. Among (λ r. r ≡ v) ready) vs → ((n : ℕ) → count (has n) vs ≤ count (has n) ready) → length (without vs ready) + length vs ≤ length ready
+  pub room_left : (vs : List Job) → Every (λ v. Among (λ r. r ≡ v) ready) vs → ((n : ℕ) → count (has n) vs ≤ count (has n) ready) → length (without vs ready) + length vs ≤ length ready
   room_left vs own few =
       let gone = leavers vs own (λ n. let a = few n in let c = distinct n in omega arith) in
       let split = length_split (among vs) ready in

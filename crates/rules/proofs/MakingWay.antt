@@ -3,7 +3,7 @@ use Rattle.std.proofs.Common.{◌≡◌, ℕ, ◌+◌, ◌<◌, ◌≤◌, Bool,
 use Rattle.std.proofs.ByRecursion.{All-weaker}
 use Rattle.std.proofs.lemmas.Bool.{cases_Bool, eqb-true, lt-ltb, ltb-true, cond_both, and_from, and_parts, both_ways}
 use Rattle.std.proofs.lemmas.Bool.Decides.{nat_tests}
-use Rattle.std.specs.List.{AllByRecursion as All}
+use Rattle.std.specs.List.{AllByRecursion as Every}
 use Rattle.jobs.specs.declared.job.Job.{Job}
 use Rattle.jobs.specs.Records.{number, limit}
 use Rattle.rankings.proofs.Placing.{all_insert, insert_sorted}
@@ -25,7 +25,7 @@ use Rattle.rules.proofs.Sweeping.{sweep_count, sweep_stays, sweep_all_ready, swe
 use Rattle.rules.proofs.Arriving.{Accepted, once_more, ready_known, parked_known, lines_still, by_own, by_ready_now, by_parked_now, story_now, ParkedStory, seen_now, last_now}
 
 module _ (ρ : Parts) (laws : LawfulParts ρ) (s : State) (j : Job) (owed : List Job) (seen : ℕ → Bool) (last : ℕ → ℕ) (i : Invariant ρ s owed seen last) (ok : Accepted s j) where
-  module _ (vs : List Job) (own_vs : All (λ v. Among (λ r. r ≡ v) s.ready) vs) (few : (n : ℕ) → count (has n) vs ≤ count (has n) s.ready) (room : fits ρ s.clock (without vs s.ready) j ≡ true) where
+  module _ (vs : List Job) (own_vs : Every (λ v. Among (λ r. r ≡ v) s.ready) vs) (few : (n : ℕ) → count (has n) vs ≤ count (has n) s.ready) (room : fits ρ s.clock (without vs s.ready) j ≡ true) where
     -- the state before the sweep, after it, and with the displacer named
     abbrev set_aside : State
     set_aside = record { clock = s.clock; ready = place ρ j (without vs s.ready); parked = insert_all (parked_order ρ) vs s.parked; ended = s.ended }
@@ -36,10 +36,10 @@ module _ (ρ : Parts) (laws : LawfulParts ρ) (s : State) (j : Job) (owed : List
     abbrev in_the_end : State
     in_the_end = make_way ρ s j vs
 
-    ready_left : (P : Job → Type 0) → All P s.ready → All P (without vs s.ready)
+    ready_left : (P : Job → Type 0) → Every P s.ready → Every P (without vs s.ready)
     ready_left P = all_kept P (λ r. not (among vs r)) s.ready
 
-    from_ready : (P : Job → Type 0) → All P s.ready → All P vs
+    from_ready : (P : Job → Type 0) → Every P s.ready → Every P vs
     from_ready P all = All-weaker _ _ (λ v own. all_among P v s.ready all own) vs own_vs
 
     count_without : (n : ℕ) (rs : List Job) → count (has n) (without vs rs) ≡ cond (some (has n) vs) 0 (count (has n) rs)
@@ -139,7 +139,7 @@ module _ (ρ : Parts) (laws : LawfulParts ρ) (s : State) (j : Job) (owed : List
     abbrev AsideStory : Job → Type 0
     AsideStory p = (p.by ≡ cond (has (number p) j) 0 (last (number p))) × (among vs p ≡ false → (seen (number p) && not (has (number p) j)) ≡ true → 0 < p.by)
 
-    aside_stories : All AsideStory set_aside.parked
+    aside_stories : Every AsideStory set_aside.parked
     aside_stories =
         all_insert_all AsideStory (parked_order ρ) vs s.parked
         (all_zip _ _ _ (λ v among_them by. (by, λ isnt. absurd (both_ways _ isnt among_them))) vs (all_among_own vs) (from_ready _ (by_ready_now ρ laws s j owed seen last i ok)))
@@ -163,7 +163,7 @@ module _ (ρ : Parts) (laws : LawfulParts ρ) (s : State) (j : Job) (owed : List
         stayed isnt true e = absurd (both_ways _ isnt (parked_from (number p) (ltb-true 0 _ (sym e)) h.1))
         stayed isnt false e = refl
 
-    stories : All ((ParkedStory ρ laws s j owed seen last i ok) in_the_end) in_the_end.parked
+    stories : Every ((ParkedStory ρ laws s j owed seen last i ok) in_the_end) in_the_end.parked
     stories =
         all_named vs (number j) _ _ story_of after_sweep.parked
         (all_both _ _ after_sweep.parked (sweep_all_parked ρ laws AsideStory s.clock set_aside.ready set_aside.parked aside_stories) (all_counted number after_sweep.parked))

@@ -2,7 +2,7 @@
 use Rattle.std.proofs.Common.{◌≡◌, ℕ, zero, suc, ◌+◌, ◌<◌, ◌≤◌, Bool, true, cond, not, eqb, ltb, ◌⊎◌, List, [], ◌∷◌, map, filter, sym, refl, ap, ◌∙◌, subst, inl, inr, ⊎_elim, arith}
 use Rattle.std.proofs.ByRecursion.{All-weaker, All-append}
 use Rattle.std.proofs.lemmas.Bool.{cond_both, eq-eqb, ltb-true}
-use Rattle.std.specs.List.{AllByRecursion as All}
+use Rattle.std.specs.List.{AllByRecursion as Every}
 use Rattle.jobs.specs.declared.ending.EndKind.{EndKind}
 use Rattle.jobs.specs.declared.ending.EndKind.TheVariants.{InTime, Missed, Withdrawn}
 use Rattle.jobs.specs.declared.ending.Ending.{Ending}
@@ -68,7 +68,7 @@ withdrawn_is_not e = let z : ◌≡◌ {A = ℕ} 0 1 = cc in omega arith
 
 module _ (ρ : Parts) (laws : LawfulParts ρ) (s : State) (js : List Job) (seen : ℕ → Bool) (last : ℕ → ℕ) (i : Invariant ρ s js seen last) where
   -- who is parked has no line
-  no_line : All (λ p. Among (MissedLine p) s.ended → ⊥) s.parked
+  no_line : Every (λ p. Among (MissedLine p) s.ended → ⊥) s.parked
   no_line =
       All-weaker _ _ (λ p stands line.
       let written = counted (line_has (number p)) (MissedLine p) (λ e is. eq-eqb e.number (number p) is.0) s.ended line in
@@ -78,14 +78,14 @@ module _ (ρ : Parts) (laws : LawfulParts ρ) (s : State) (js : List Job) (seen 
       s.parked (all_counted number s.parked)
 
   -- a state whose lines are those there were, and some of another kind
-  quiet : (t : ℕ) (es : List Ending) → ((p : Job) → Among (MissedLine p) es → Among (MissedLine p) s.ended) → All (LateIn t es) s.parked
+  quiet : (t : ℕ) (es : List Ending) → ((p : Job) → Among (MissedLine p) es → Among (MissedLine p) s.ended) → Every (LateIn t es) s.parked
   quiet t es from = All-weaker _ _ (λ p none line. absurd (none (from p line))) s.parked no_line
 
-  unchanged : All (LateIn s.clock s.ended) s.parked
+  unchanged : Every (LateIn s.clock s.ended) s.parked
   unchanged = quiet s.clock s.ended (λ p line. line)
 
   abbrev Lates : Outcome → Type 0
-  Lates o = All (LateIn o.state.clock o.state.ended) s.parked
+  Lates o = Every (LateIn o.state.clock o.state.ended) s.parked
 
   arrive_late : (a : Arrival) → Lates (on_arrive ρ s a)
   arrive_late a = arrive_cases ρ s a Lates (λ e. unchanged) (λ _ _ ok. admit_cases ρ s (job_of s a) Lates (λ _. unchanged) (λ _ _. unchanged) (λ v rest _ _. unchanged))
@@ -117,7 +117,7 @@ module _ (ρ : Parts) (laws : LawfulParts ρ) (s : State) (js : List Job) (seen 
       let named = answers gone (cond (some (has n) s.ready) (swept ρ from_ready) from_parked) in
       refusing_cases Lates (not (between 1 65535 n)) Range s (refusing (not (pending s n)) Unknown s named) unchanged
       (λ _. refusing_cases Lates (not (pending s n)) Unknown s named unchanged
-      (λ _. cond_both (some (has n) s.ready) (swept ρ from_ready) from_parked (λ w. All (LateIn w.clock w.ended) s.parked) (λ _. quiet s.clock from_ready.ended (lines_withdrawn n s.ready)) (λ _. quiet s.clock from_parked.ended (lines_withdrawn n s.parked))))
+      (λ _. cond_both (some (has n) s.ready) (swept ρ from_ready) from_parked (λ w. Every (LateIn w.clock w.ended) s.parked) (λ _. quiet s.clock from_ready.ended (lines_withdrawn n s.ready)) (λ _. quiet s.clock from_parked.ended (lines_withdrawn n s.parked))))
 
   collect_late : Lates (collect_first s s.ended)
   collect_late = by_lines s.ended refl
@@ -133,7 +133,7 @@ module _ (ρ : Parts) (laws : LawfulParts ρ) (s : State) (js : List Job) (seen 
       distinct : (n : ℕ) → count (has n) s.parked ≤ 1
       distinct n = let e = i.books.each n in let o = i.books.once n in omega arith
 
-      found : (ls : List Job) → All (λ l. Among (λ r. r ≡ l) s.parked) ls → Among (λ l. MissedLine p (ends t Missed l)) (filter (late t) ls) → late t p ≡ true
+      found : (ls : List Job) → Every (λ l. Among (λ r. r ≡ l) s.parked) ls → Among (λ l. MissedLine p (ends t Missed l)) (filter (late t) ls) → late t p ≡ true
       found [] owns h = elim h [ ]
       found (l ∷ ls) owns h =
           cond_both (late t l) (l ∷ filter (late t) ls) (filter (late t) ls) (λ ks. Among (λ l. MissedLine p (ends t Missed l)) ks → late t p ≡ true)
@@ -141,7 +141,7 @@ module _ (ρ : Parts) (laws : LawfulParts ρ) (s : State) (js : List Job) (seen 
           (λ _ k. found ls owns.1 k)
           h
 
-  expire_late : (w : State) → w.parked ≡ s.parked → ((p : Job) → Among (MissedLine p) w.ended → Among (MissedLine p) s.ended) → All (LateIn w.clock (expire w).ended) s.parked
+  expire_late : (w : State) → w.parked ≡ s.parked → ((p : Job) → Among (MissedLine p) w.ended → Among (MissedLine p) s.ended) → Every (LateIn w.clock (expire w).ended) s.parked
   expire_late w same from =
       all_zip _ _ _ (λ p own none line.
       ⊎_elim (λ new. ltb-true _ _ (missed_were_late w.clock p own (subst (λ ps. Among (λ l. MissedLine p (ends w.clock Missed l)) (filter (late w.clock) ps)) same (among_map (MissedLine p) (ends w.clock Missed) (filter (late w.clock) w.parked) new))))
@@ -157,36 +157,36 @@ module _ (ρ : Parts) (laws : LawfulParts ρ) (s : State) (js : List Job) (seen 
   worked_lines t [] p line = line
   worked_lines t (j ∷ rs) p line = cond_both {A = State} (eqb j.remaining 1) _ _ (λ w. Among (MissedLine p) w.ended → Among (MissedLine p) s.ended) (λ _ k. in_time t j p k) (λ _ k. k) line
 
-  tick_late : All (LateIn (tick ρ s).clock (tick ρ s).ended) s.parked
+  tick_late : Every (LateIn (tick ρ s).clock (tick ρ s).ended) s.parked
   tick_late =
       let w = worked (s.clock + 1) s s.ready in
       let there = expire_late w (worked_parked (s.clock + 1) s.ready) (worked_lines (s.clock + 1) s.ready) in
-      let there' : All (LateIn (expire w).clock (expire w).ended) s.parked = there in
-      cond_both (last_tick s.ready) (swept ρ (expire w)) (expire w) (λ v. All (LateIn v.clock v.ended) s.parked) (λ _. there') (λ _. there')
+      let there' : Every (LateIn (expire w).clock (expire w).ended) s.parked = there in
+      cond_both (last_tick s.ready) (swept ρ (expire w)) (expire w) (λ v. Every (LateIn v.clock v.ended) s.parked) (λ _. there') (λ _. there')
 
 -- EVERY MOMENT OF A RUN
 
 module _ (ρ : Parts) (laws : LawfulParts ρ) where
-  ticks_late : (k : ℕ) (s : State) (js : List Job) (seen : ℕ → Bool) (last : ℕ → ℕ) → Invariant ρ s js seen last → All MissedLate (tick_moments ρ k s)
+  ticks_late : (k : ℕ) (s : State) (js : List Job) (seen : ℕ → Bool) (last : ℕ → ℕ) → Invariant ρ s js seen last → Every MissedLate (tick_moments ρ k s)
   ticks_late zero s js seen last i = tt
   ticks_late (suc k) s js seen last i = (tick_late ρ laws s js seen last i, ticks_late k (tick ρ s) js seen last (tick_keeps ρ laws s js seen last i))
 
-  work_late : (s : State) (n : ℕ) (js : List Job) (seen : ℕ → Bool) (last : ℕ → ℕ) → Invariant ρ s js seen last → All MissedLate (work_moments ρ s n (on_work ρ s n).answer)
+  work_late : (s : State) (n : ℕ) (js : List Job) (seen : ℕ → Bool) (last : ℕ → ℕ) → Invariant ρ s js seen last → Every MissedLate (work_moments ρ s n (on_work ρ s n).answer)
   work_late s n js seen last i =
-      let Q : Outcome → Type 0 = λ o. All MissedLate (work_moments ρ s n o.answer) in
+      let Q : Outcome → Type 0 = λ o. Every MissedLate (work_moments ρ s n o.answer) in
       let done = answers (now_at (after_ticks ρ n s).clock) (after_ticks ρ n s) in
-      let turned : All MissedLate (record { event = nothing_new; before = s; after = s } ∷ []) = (unchanged ρ laws s js seen last i, tt) in
+      let turned : Every MissedLate (record { event = nothing_new; before = s; after = s } ∷ []) = (unchanged ρ laws s js seen last i, tt) in
       refusing_cases Q (not (between 1 10000 n)) Range s (refusing (ltb 1000000000 (s.clock + n)) Horizon s done) turned
       (λ _. refusing_cases Q (ltb 1000000000 (s.clock + n)) Horizon s done turned (λ _. ticks_late n s js seen last i))
 
-  pub serve_late : (s : State) (k : Call) (js : List Job) (seen : ℕ → Bool) (last : ℕ → ℕ) → Invariant ρ s js seen last → All MissedLate (moments ρ s k)
+  pub serve_late : (s : State) (k : Call) (js : List Job) (seen : ℕ → Bool) (last : ℕ → ℕ) → Invariant ρ s js seen last → Every MissedLate (moments ρ s k)
   serve_late s (arrive a) js seen last i = (arrive_late ρ laws s js seen last i a, tt)
   serve_late s (work n) js seen last i = work_late s n js seen last i
   serve_late s (finish n) js seen last i = (finish_late ρ laws s js seen last i n, tt)
   serve_late s (withdraw n) js seen last i = (withdraw_late ρ laws s js seen last i n, tt)
   serve_late s collect js seen last i = (collect_late ρ laws s js seen last i, tt)
 
-  pub run_late : (ks : List Call) (s : State) (js : List Job) (seen : ℕ → Bool) (last : ℕ → ℕ) → Invariant ρ s js seen last → All MissedLate (trace ρ s ks)
+  pub run_late : (ks : List Call) (s : State) (js : List Job) (seen : ℕ → Bool) (last : ℕ → ℕ) → Invariant ρ s js seen last → Every MissedLate (trace ρ s ks)
   run_late [] s js seen last i = tt
   run_late (k ∷ ks) s js seen last i =
       All-append MissedLate (moments ρ s k) (trace ρ (serve ρ s k).state ks) (serve_late s k js seen last i) (run_late ks (serve ρ s k).state _ _ _ (serve_keeps ρ laws s k js seen last i))

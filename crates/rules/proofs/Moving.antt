@@ -2,7 +2,7 @@
 use Rattle.std.proofs.Common.{◌≡◌, ℕ, ◌+◌, ◌<◌, ◌≤◌, Bool, true, not, List, [], ◌∷◌, map, filter, sym, ap, inl, inr, arith}
 use Rattle.std.proofs.ByRecursion.{All-weaker}
 use Rattle.std.proofs.lemmas.Bool.{ltb-true, ltb-false, not-true, cases_Bool, cond_both}
-use Rattle.std.specs.List.{AllByRecursion as All}
+use Rattle.std.specs.List.{AllByRecursion as Every}
 use Rattle.jobs.specs.declared.ending.EndKind.{EndKind}
 use Rattle.jobs.specs.declared.ending.EndKind.TheVariants.{InTime, Missed, Withdrawn}
 use Rattle.jobs.specs.declared.job.Job.{Job}
@@ -34,7 +34,7 @@ line_timely t Withdrawn j o lasting well same = tt
 pub line_of : (t : ℕ) (k : EndKind) (js : List Job) (j : Job) → Among (SameJob j) js → Lasting j → EndsWell t k j → LineOf js (ends t k j)
 line_of t k js j known lasting well = among_weaker (SameJob j) _ (λ o same. (ap (λ m. m.number) same.0, line_timely t k j o lasting well same)) js known
 
-pub lines_of : (t : ℕ) (k : EndKind) (js ls : List Job) → All (λ j. Among (SameJob j) js) ls → All Lasting ls → All (EndsWell t k) ls → All (LineOf js) (map (ends t k) ls)
+pub lines_of : (t : ℕ) (k : EndKind) (js ls : List Job) → Every (λ j. Among (SameJob j) js) ls → Every Lasting ls → Every (EndsWell t k) ls → Every (LineOf js) (map (ends t k) ls)
 lines_of t k js [] a b c = tt
 lines_of t k js (l ∷ ls) a b c = (line_of t k js l a.0 b.0 c.0, lines_of t k js ls a.1 b.1 c.1)
 
@@ -81,13 +81,13 @@ module _ (ρ : Parts) (laws : LawfulParts ρ) (s : State) where
 -- LATE JOBS END AS MISSED
 
 module _ (s : State) where
-  late_all : (P : Job → Type 0) → All P s.parked → All P (filter (late s.clock) s.parked)
+  late_all : (P : Job → Type 0) → Every P s.parked → Every P (filter (late s.clock) s.parked)
   late_all P = all_kept P (late s.clock) s.parked
 
-  stay_all : (P : Job → Type 0) → All P s.parked → All P (expire s).parked
+  stay_all : (P : Job → Type 0) → Every P s.parked → Every P (expire s).parked
   stay_all P = all_kept P (λ j. not (late s.clock j)) s.parked
 
-  pub books_expired : (js : List Job) → All Lasting s.parked → Books s js → Books (expire s) js
+  pub books_expired : (js : List Job) → Every Lasting s.parked → Books s js → Books (expire s) js
   books_expired js lasting b = record {
     each = λ n.
         let gone = count_insert_all (line_has n) ended_order (map (ends s.clock Missed) (filter (late s.clock) s.parked)) s.ended in
@@ -133,10 +133,10 @@ module _ (s : State) where
   pub can_expired : Can (expire s)
   can_expired = not_late s.parked
     where
-      not_late : (ps : List Job) → All (λ p. s.clock + p.remaining ≤ limit p) (filter (λ j. not (late s.clock j)) ps)
+      not_late : (ps : List Job) → Every (λ p. s.clock + p.remaining ≤ limit p) (filter (λ j. not (late s.clock j)) ps)
       not_late [] = tt
       not_late (p ∷ ps) =
-          cond_both (not (late s.clock p)) (p ∷ filter _ ps) (filter _ ps) (All (λ q. s.clock + q.remaining ≤ limit q))
+          cond_both (not (late s.clock p)) (p ∷ filter _ ps) (filter _ ps) (Every (λ q. s.clock + q.remaining ≤ limit q))
           (λ h. (ltb-false _ _ (not-true _ h), not_late ps))
           (λ _. not_late ps)
 

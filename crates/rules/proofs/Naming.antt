@@ -1,7 +1,7 @@
 -- Naming a displacer changes a job's `by` alone: nothing else depends on it.
 use Rattle.std.proofs.Common.{◌≡◌, ℕ, ◌+◌, Bool, true, false, cond, ◌&&◌, leb, List, [], ◌∷◌, refl, ap, ◌∙◌, arith}
 use Rattle.std.proofs.lemmas.Bool.{cond_both}
-use Rattle.std.specs.List.{AllByRecursion as All}
+use Rattle.std.specs.List.{AllByRecursion as Every}
 use Rattle.jobs.specs.declared.job.Job.{Job}
 use Rattle.jobs.specs.Records.{limit}
 use Rattle.rankings.specs.Ranked.{before, Sorted}
@@ -15,7 +15,7 @@ module _ (vs : List Job) (n : ℕ) where
   abbrev pub named : Job → Job
   named p = cond (among vs p) (displaced n p) p
 
-  pub all_named : (P Q : Job → Type 0) → ((p : Job) → P p → Q (named p)) → (ps : List Job) → All P ps → All Q (name_displacer vs n ps)
+  pub all_named : (P Q : Job → Type 0) → ((p : Job) → P p → Q (named p)) → (ps : List Job) → Every P ps → Every Q (name_displacer vs n ps)
   all_named P Q f [] a = tt
   all_named P Q f (p ∷ ps) a = (f p a.0, all_named P Q f ps a.1)
 

@@ -3,7 +3,7 @@ use Rattle.std.proofs.Common.{◌≡◌, ℕ, ◌≤◌, Bool, true, false, not,
 use Rattle.std.proofs.ByRecursion.{All-weaker}
 use Rattle.std.proofs.lemmas.Bool.{eq-eqb, le-ltb, both_ways}
 use Rattle.std.proofs.lemmas.Bool.Decides.{nat_tests}
-use Rattle.std.specs.List.{AllByRecursion as All}
+use Rattle.std.specs.List.{AllByRecursion as Every}
 use Rattle.jobs.specs.declared.ending.EndKind.{EndKind}
 use Rattle.jobs.specs.declared.ending.EndKind.TheVariants.{InTime, Missed, Withdrawn}
 use Rattle.jobs.specs.declared.ending.Ending.{Ending}
@@ -15,7 +15,7 @@ use Rattle.rules.proofs.Invariant.{Books, Told, Invariant}
 use Rattle.rules.proofs.Keeping.{some_count, all_both}
 
 -- each record of a list is counted under its own number
-pub all_counted : {A : Type 0} (name : A → ℕ) (xs : List A) → All (λ x. 1 ≤ count (λ y. eqb (name y) (name x)) xs) xs
+pub all_counted : {A : Type 0} (name : A → ℕ) (xs : List A) → Every (λ x. 1 ≤ count (λ y. eqb (name y) (name x)) xs) xs
 all_counted name [] = tt
 all_counted name (x ∷ xs) =
     let own = eq-eqb (name x) (name x) refl in
@@ -26,19 +26,19 @@ pub not_some : {A : Type 0} (test : A → Bool) (xs : List A) → count test xs 
 not_some test xs none = some_count test xs ∙ le-ltb 0 (count test xs) (omega arith)
 
 module _ (s : State) (owed : List Job) (b : Books s owed) where
-  pub parked_not_ready : All (λ p. some (has (number p)) s.ready ≡ false) s.parked
+  pub parked_not_ready : Every (λ p. some (has (number p)) s.ready ≡ false) s.parked
   parked_not_ready =
       All-weaker _ _ (λ p h. not_some (has (number p)) s.ready (let e = b.each (number p) in let o = b.once (number p) in omega arith)) s.parked (all_counted number s.parked)
 
-  pub ready_not_parked : All (λ r. some (has (number r)) s.parked ≡ false) s.ready
+  pub ready_not_parked : Every (λ r. some (has (number r)) s.parked ≡ false) s.ready
   ready_not_parked =
       All-weaker _ _ (λ r h. not_some (has (number r)) s.parked (let e = b.each (number r) in let o = b.once (number r) in omega arith)) s.ready (all_counted number s.ready)
 
-  pub ended_not_ready : All (λ e. some (has e.number) s.ready ≡ false) s.ended
+  pub ended_not_ready : Every (λ e. some (has e.number) s.ready ≡ false) s.ended
   ended_not_ready =
       All-weaker _ _ (λ l h. not_some (has l.number) s.ready (let e = b.each l.number in let o = b.once l.number in omega arith)) s.ended (all_counted (λ l. l.number) s.ended)
 
-  pub ended_not_parked : All (λ e. some (has e.number) s.parked ≡ false) s.ended
+  pub ended_not_parked : Every (λ e. some (has e.number) s.parked ≡ false) s.ended
   ended_not_parked =
       All-weaker _ _ (λ l h. not_some (has l.number) s.parked (let e = b.each l.number in let o = b.once l.number in omega arith)) s.ended (all_counted (λ l. l.number) s.ended)
 

@@ -1,7 +1,7 @@
 -- Lists in an order: insertions commute, and leaving records out commutes with insertion.
 use Rattle.std.proofs.Common.{◌≡◌, Bool, true, false, cond, List, [], ◌∷◌, filter, sym, refl, ap, ◌∙◌, inl, inr}
 use Rattle.std.proofs.lemmas.Bool.{cond-true, cond-false, cases_Bool}
-use Rattle.std.specs.List.{AllByRecursion as All}
+use Rattle.std.specs.List.{AllByRecursion as Every}
 use Rattle.rankings.specs.Ranked.{insert, Sorted}
 use Rattle.rankings.proofs.Before.{Ordered}
 use Rattle.rankings.proofs.Placing.{insert_sorted}
@@ -28,12 +28,12 @@ module _ {A : Type 0} (first : A → A → Bool) (ordered : Ordered first) where
       let P : Bool → Type 0 = λ b. filter test (cond b (x ∷ (y ∷ ys)) (y ∷ insert first x ys)) ≡ filter test (y ∷ ys) in
       elim (first x y) as P [ true ↦ cond-false (test x) _ _ out | false ↦ ap (λ l. cond (test y) (y ∷ l) l) ih ]
 
-  insert_front : (x : A) (xs : List A) → All (λ y. first x y ≡ true) xs → insert first x xs ≡ x ∷ xs
+  insert_front : (x : A) (xs : List A) → Every (λ y. first x y ≡ true) xs → insert first x xs ≡ x ∷ xs
   insert_front x [] h = refl
   insert_front x (y ∷ ys) h = cond-true (first x y) _ _ h.0
 
   -- x before y, and y before none of ys: x before each of them
-  all_across : (x y : A) (ys : List A) → first x y ≡ true → All (λ z. first z y ≡ false) ys → All (λ z. first x z ≡ true) ys
+  all_across : (x y : A) (ys : List A) → first x y ≡ true → Every (λ z. first z y ≡ false) ys → Every (λ z. first x z ≡ true) ys
   all_across x y [] h zs = tt
   all_across x y (z ∷ zs) h a = (ordered.across x y z h a.0, all_across x y zs h a.1)
 

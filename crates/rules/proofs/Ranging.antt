@@ -2,7 +2,7 @@
 use Rattle.std.proofs.Common.{◌≡◌, ℕ, zero, suc, ◌+◌, ◌<◌, ◌≤◌, Bool, false, cond, not, ltb, leb, List, [], ◌∷◌, length, filter, refl, ap, arith}
 use Rattle.std.proofs.ByRecursion.{All-weaker, All-append}
 use Rattle.std.proofs.lemmas.Bool.{cond_both, and_parts, not-false, leb-true, leb-false, ltb-false}
-use Rattle.std.specs.List.{AllByRecursion as All}
+use Rattle.std.specs.List.{AllByRecursion as Every}
 use Rattle.jobs.specs.declared.ending.EndKind.TheVariants.{InTime, Withdrawn}
 use Rattle.jobs.specs.declared.ending.Ending.{Ending}
 use Rattle.jobs.specs.declared.job.Job.{Job}
@@ -80,7 +80,7 @@ module _ (ρ : Parts) (laws : LawfulParts ρ) where
       length_named vs n [] = refl
       length_named vs n (p ∷ ps) = ap suc (length_named vs n ps)
 
-      made_way : (vs : List Job) → All (λ v. Among (λ r. r ≡ v) s.ready) vs → ((n : ℕ) → count (has n) vs ≤ count (has n) s.ready) → Fields (make_way ρ s (job_of s a) vs)
+      made_way : (vs : List Job) → Every (λ v. Among (λ r. r ≡ v) s.ready) vs → ((n : ℕ) → count (has n) vs ≤ count (has n) s.ready) → Fields (make_way ρ s (job_of s a) vs)
       made_way vs own few =
           let j = job_of s a in
           let left = without vs s.ready in
@@ -124,7 +124,7 @@ module _ (ρ : Parts) (laws : LawfulParts ρ) where
 
     -- FINISH AND WITHDRAW
 
-    finish_first_fields : (n : ℕ) (rs : List Job) → length rs + (length s.parked + length s.ended) ≤ 64 → All (JobInRange s.clock) rs → InFields (finish_first ρ s n rs)
+    finish_first_fields : (n : ℕ) (rs : List Job) → length rs + (length s.parked + length s.ended) ≤ 64 → Every (JobInRange s.clock) rs → InFields (finish_first ρ s n rs)
     finish_first_fields n [] few ready = f
     finish_first_fields n (j ∷ rs) few ready =
         let line = ends s.clock InTime j in
@@ -139,7 +139,7 @@ module _ (ρ : Parts) (laws : LawfulParts ρ) where
         refusing_cases InFields (not (between 1 65535 n)) Range s (refusing (not (pending s n)) Unknown s named) f
         (λ _. refusing_cases InFields (not (pending s n)) Unknown s named f (λ _. finish_first_fields n s.ready f.few f.ready))
 
-    lines_ranged : (n : ℕ) (ks : List Job) → All (JobInRange s.clock) ks → All (LineInRange s.clock) (insert_all ended_order (withdrawn s.clock n ks) s.ended)
+    lines_ranged : (n : ℕ) (ks : List Job) → Every (JobInRange s.clock) ks → Every (LineInRange s.clock) (insert_all ended_order (withdrawn s.clock n ks) s.ended)
     lines_ranged n ks all =
         all_insert_all _ ended_order (withdrawn s.clock n ks) s.ended
         (all_mapped (LineInRange s.clock) (ends s.clock Withdrawn) (filter (has n) ks) (All-weaker (JobInRange s.clock) _ (line_in_range s.clock s.clock Withdrawn (omega arith)) (filter (has n) ks) (all_kept _ (has n) ks all)))
@@ -164,7 +164,7 @@ module _ (ρ : Parts) (laws : LawfulParts ρ) where
         (λ _. fields_swept ρ laws from_ready (record { few = let same = withdrawn_length n s.ready in omega arith; ready = all_kept _ (other n) s.ready f.ready; parked = f.parked; lines = lines_ranged n s.ready f.ready }))
         (λ _. record { few = let same = withdrawn_length n s.parked in omega arith; ready = f.ready; parked = all_kept _ (other n) s.parked f.parked; lines = lines_ranged n s.parked f.parked })))
 
-    collect_fields : (es : List Ending) → length s.ready + (length s.parked + length es) ≤ 64 → All (LineInRange s.clock) es → InFields (collect_first s es)
+    collect_fields : (es : List Ending) → length s.ready + (length s.parked + length es) ≤ 64 → Every (LineInRange s.clock) es → InFields (collect_first s es)
     collect_fields [] few lines = f
     collect_fields (e ∷ es) few lines = record { few = omega arith; ready = f.ready; parked = f.parked; lines = lines.1 }
 

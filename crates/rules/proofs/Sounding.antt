@@ -2,7 +2,7 @@
 use Rattle.std.proofs.Common.{◌≡◌, ℕ, ◌≤◌, Bool, false, List, [], ◌∷◌, ◌++◌, sym, refl, ap, ◌∙◌, subst, inl, inr, append_assoc, append-nil, arith}
 use Rattle.std.proofs.ByRecursion.{All-weaker, All-append}
 use Rattle.std.proofs.lemmas.Bool.{both_ways, cases_Bool, cond-true, cond-false, eqb-true}
-use Rattle.std.specs.List.{AllByRecursion as All}
+use Rattle.std.specs.List.{AllByRecursion as Every}
 use Rattle.jobs.specs.declared.ending.EndKind.{EndKind}
 use Rattle.jobs.specs.declared.ending.EndKind.TheVariants.{InTime, Missed, Withdrawn}
 use Rattle.jobs.specs.declared.ending.Ending.{Ending}
@@ -51,7 +51,7 @@ module _ (ρ : Parts) (laws : LawfulParts ρ) (s : State) (js : List Job) (seen 
       let lasting = all_insert (ready_order ρ) p (λ j. 1 ≤ j.remaining) s.ready h.1.0 (All-weaker Lasting _ (λ j l. l.0) s.ready i.times.lasting_ready) in
       both_ways _ no_room (plan_makes_hold q s.clock (place ρ p s.ready) (with_parked p h.0) lasting follows plan)
 
-  pub none_planned : All (λ p. FollowsLimits (place ρ p s.ready) → (q : Plan) → PlanHolds q s.clock (place ρ p s.ready) → ⊥) s.parked
+  pub none_planned : Every (λ p. FollowsLimits (place ρ p s.ready) → (q : Plan) → PlanHolds q s.clock (place ρ p s.ready) → ⊥) s.parked
   none_planned = all_zip _ _ _ no_plan s.parked (all_both _ _ s.parked (all_counted number s.parked) i.times.lasting_parked) i.full
 
 -- a line is explained by the history that the moments tell
@@ -60,7 +60,7 @@ explained_by ms e InTime h = tt
 explained_by ms e Missed h = h
 explained_by ms e Withdrawn h = tt
 
-sound : (ρ : Parts) (laws : LawfulParts ρ) (s : State) (ms : List Moment) → KeptBy ρ s ms [] (λ n. false) (λ n. 0) → All MissedLate ms → Sound ρ s ms
+sound : (ρ : Parts) (laws : LawfulParts ρ) (s : State) (ms : List Moment) → KeptBy ρ s ms [] (λ n. false) (λ n. 0) → Every MissedLate ms → Sound ρ s ms
 sound ρ laws s ms i late =
     let js = owed ms [] in
     let seen : ℕ → Bool = λ n. was_ready n false ms in

@@ -2,7 +2,7 @@
 use Rattle.std.proofs.Common.{◌≡◌, ℕ, ◌+◌, ◌≤◌, Bool, true, false, List, [], ◌∷◌, sym, refl, ap, ◌∙◌, arith}
 use Rattle.std.proofs.lemmas.Bool.{cond_both, eq-eqb}
 use Rattle.std.proofs.lemmas.Bool.Decides.{nat_tests}
-use Rattle.std.specs.List.{AllByRecursion as All}
+use Rattle.std.specs.List.{AllByRecursion as Every}
 use Rattle.jobs.specs.declared.job.Job.{Job}
 use Rattle.jobs.specs.Records.{number}
 use Rattle.rankings.specs.Ranked.{Sorted}
@@ -38,12 +38,12 @@ module _ (ρ : Parts) (laws : LawfulParts ρ) where
       (λ _. sweep_still t p rs qs rest h)
 
   -- one sweep suffices
-  pub sweep_full : (t : ℕ) (rs ps : List Job) → ((n : ℕ) → count (has n) ps ≤ 1) → All (λ p. fits ρ t (sweep ρ t rs ps).ready p ≡ false) (sweep ρ t rs ps).parked
+  pub sweep_full : (t : ℕ) (rs ps : List Job) → ((n : ℕ) → count (has n) ps ≤ 1) → Every (λ p. fits ρ t (sweep ρ t rs ps).ready p ≡ false) (sweep ρ t rs ps).parked
   sweep_full t rs [] once = tt
   sweep_full t rs (p ∷ ps) once =
       let rest : (n : ℕ) → count (has n) ps ≤ 1 = λ n. let here = once n in omega arith in
       let alone : count (has (number p)) ps ≡ 0 = let here = once (number p) in omega (arith, count_own p ps) in
-      cond_both (fits ρ t rs p) (sweep ρ t (place ρ p rs) ps) (left_parked p (sweep ρ t rs ps)) (λ w. All (λ x. fits ρ t w.ready x ≡ false) w.parked)
+      cond_both (fits ρ t rs p) (sweep ρ t (place ρ p rs) ps) (left_parked p (sweep ρ t rs ps)) (λ w. Every (λ x. fits ρ t w.ready x ≡ false) w.parked)
       (λ _. sweep_full t (place ρ p rs) ps rest)
       (λ h. (sweep_still t p rs ps alone h, sweep_full t rs ps rest))
 
@@ -69,17 +69,17 @@ module _ (ρ : Parts) (laws : LawfulParts ρ) where
       (λ _. let ih = sweep_stays test t (place ρ p rs) ps in let here = count_insert test (ready_order ρ) p rs in omega arith)
       (λ _. sweep_stays test t rs ps)
 
-  pub sweep_all_ready : (P : Job → Type 0) (t : ℕ) (rs ps : List Job) → All P rs → All P ps → All P (sweep ρ t rs ps).ready
+  pub sweep_all_ready : (P : Job → Type 0) (t : ℕ) (rs ps : List Job) → Every P rs → Every P ps → Every P (sweep ρ t rs ps).ready
   sweep_all_ready P t rs [] a b = a
   sweep_all_ready P t rs (p ∷ ps) a b =
-      cond_both (fits ρ t rs p) (sweep ρ t (place ρ p rs) ps) (left_parked p (sweep ρ t rs ps)) (λ w. All P w.ready)
+      cond_both (fits ρ t rs p) (sweep ρ t (place ρ p rs) ps) (left_parked p (sweep ρ t rs ps)) (λ w. Every P w.ready)
       (λ _. sweep_all_ready P t (place ρ p rs) ps (all_insert (ready_order ρ) p P rs b.0 a) b.1)
       (λ _. sweep_all_ready P t rs ps a b.1)
 
-  pub sweep_all_parked : (P : Job → Type 0) (t : ℕ) (rs ps : List Job) → All P ps → All P (sweep ρ t rs ps).parked
+  pub sweep_all_parked : (P : Job → Type 0) (t : ℕ) (rs ps : List Job) → Every P ps → Every P (sweep ρ t rs ps).parked
   sweep_all_parked P t rs [] b = tt
   sweep_all_parked P t rs (p ∷ ps) b =
-      cond_both (fits ρ t rs p) (sweep ρ t (place ρ p rs) ps) (left_parked p (sweep ρ t rs ps)) (λ w. All P w.parked)
+      cond_both (fits ρ t rs p) (sweep ρ t (place ρ p rs) ps) (left_parked p (sweep ρ t rs ps)) (λ w. Every P w.parked)
       (λ _. sweep_all_parked P t (place ρ p rs) ps b.1)
       (λ _. (b.0, sweep_all_parked P t rs ps b.1))
 

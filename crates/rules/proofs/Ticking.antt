@@ -2,7 +2,7 @@
 use Rattle.std.proofs.Common.{◌≡◌, ℕ, ◌+◌, ◌-◌, ◌≤◌, Bool, true, false, cond, eqb, List, [], ◌∷◌, sym, refl, ap, ◌∙◌, subst, inl, inr, arith}
 use Rattle.std.proofs.ByRecursion.{All-weaker}
 use Rattle.std.proofs.lemmas.Bool.{cases_Bool, cond-true, cond-false, cond_both, eqb-true, eqb-false, le-leb, and_from, both_ways}
-use Rattle.std.specs.List.{AllByRecursion as All}
+use Rattle.std.specs.List.{AllByRecursion as Every}
 use Rattle.jobs.specs.declared.ending.EndKind.TheVariants.{InTime}
 use Rattle.jobs.specs.declared.job.Job.{Job}
 use Rattle.jobs.specs.Records.{limit}
@@ -24,7 +24,7 @@ with_ready s rs = record { clock = s.clock; ready = rs; parked = s.parked; ended
 
 module _ (ρ : Parts) (laws : LawfulParts ρ) where
   -- nobody is parked where nobody is ready
-  none_parked : (t : ℕ) (ps : List Job) → All (λ p. t + p.remaining ≤ limit p) ps → All (λ p. fits ρ t [] p ≡ false) ps → ps ≡ []
+  none_parked : (t : ℕ) (ps : List Job) → Every (λ p. t + p.remaining ≤ limit p) ps → Every (λ p. fits ρ t [] p ≡ false) ps → ps ≡ []
   none_parked t [] can full = refl
   none_parked t (p ∷ ps) can full = absurd (both_ways _ full.0 (and_from _ _ (le-leb _ _ can.0) refl))
 
@@ -84,7 +84,7 @@ module _ (ρ : Parts) (laws : LawfulParts ρ) where
         expired w (record { each = i.books.each; once = i.books.once; same_ready = tt; same_parked = i.books.same_parked; lines = i.books.lines })
         (record { by_ready = tt; by_parked = i.story.by_parked; waits = i.story.waits; told = i.story.told })
         (record { by_order = tt; by_parking = i.times.by_parking; by_tick = i.times.by_tick; lasting_ready = tt; lasting_parked = i.times.lasting_parked; kept = refl })
-        (subst (All (λ p. fits ρ (s.clock + 1) [] p ≡ false)) (sym none) tt)
+        (subst (Every (λ p. fits ρ (s.clock + 1) [] p ≡ false)) (sym none) tt)
 
     module _ (j : Job) (js : List Job) (i : Invariant ρ (with_ready s (j ∷ js)) owed seen last) where
       ends_now : j.remaining ≡ 1 → Invariant ρ (swept ρ (expire (record { clock = s.clock + 1; ready = js; parked = s.parked; ended = insert ended_order (ends (s.clock + 1) InTime j) s.ended }))) owed seen last

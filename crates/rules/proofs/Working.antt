@@ -3,7 +3,7 @@ use Rattle.std.proofs.Common.{◌≡◌, ℕ, ◌+◌, ◌-◌, ◌<◌, ◌≤�
 use mathlib.Core.Option.{some}
 use Rattle.std.proofs.ByRecursion.{All-from_get_or, All-weaker}
 use Rattle.std.proofs.lemmas.Bool.{cond-true, cond-false, cond_both, lt-ltb, le-ltb, eq-eqb, eqb-false, ne_eqb, leb-true, and_parts, cases_lt}
-use Rattle.std.specs.List.{AllByRecursion as All}
+use Rattle.std.specs.List.{AllByRecursion as Every}
 use Rattle.jobs.specs.declared.job.Job.{Job}
 use Rattle.jobs.specs.Records.{number, limit, blank}
 use Rattle.timing.specs.Timing.{holds}
@@ -17,13 +17,13 @@ abbrev Gives : Plan → ℕ → ℕ → ℕ → Type 0
 Gives q n t r = (u : ℕ) → t ≤ u → u < t + r → q u ≡ some n
 
 -- the jobs have had as many ticks by the one plan as by the other
-first_unended_same : (p q : Plan) (s t u : ℕ) (js : List Job) → All (λ k. ticks p (number k) s (u - s) ≡ ticks q (number k) t (u - t)) js → first_unended p s u js ≡ first_unended q t u js
+first_unended_same : (p q : Plan) (s t u : ℕ) (js : List Job) → Every (λ k. ticks p (number k) s (u - s) ≡ ticks q (number k) t (u - t)) js → first_unended p s u js ≡ first_unended q t u js
 first_unended_same p q s t u [] same = refl
 first_unended_same p q s t u (k ∷ ks) same =
     (λ i. cond (ltb (same.0 i) k.remaining) (some (number k)) (first_unended_same p q s t u ks same.1 i))
 
 -- no tick goes to a job that is not in the list
-first_unended_other : (q : Plan) (t u n : ℕ) (js : List Job) → All (λ k. has n k ≡ false) js → given (first_unended q t u js) n ≡ false
+first_unended_other : (q : Plan) (t u n : ℕ) (js : List Job) → Every (λ k. has n k ≡ false) js → given (first_unended q t u js) n ≡ false
 first_unended_other q t u n [] other = refl
 first_unended_other q t u n (k ∷ ks) other =
     cond_both (ltb (ticks q (number k) t (u - t)) k.remaining) (some (number k)) (first_unended q t u ks) (λ o. given o n ≡ false)
@@ -58,7 +58,7 @@ module _ (q : Plan) (n t r : ℕ) (gives : Gives q n t r) where
       (cases_lt u (t + r))
 
   -- and other jobs that are served from there on are served
-  others_served : (js : List Job) → All (λ k. has n k ≡ false) js → PlanHolds q (t + r) js → PlanHolds q t js
+  others_served : (js : List Job) → Every (λ k. has n k ≡ false) js → PlanHolds q (t + r) js → PlanHolds q t js
   others_served [] others served = tt
   others_served (k ∷ ks) others served = (record { whole = other_ticks (number k) (limit k) others.0 ∙ served.0.whole; none_after = served.0.none_after }, others_served ks others.1 served.1)
 
@@ -76,7 +76,7 @@ module _ (q : Plan) (t : ℕ) (j : Job) (js : List Job) where
   works_first : WorksInOrder q t (j ∷ js) → Gives q (number j) t j.remaining
   works_first works u from to = works u from ∙ first_going u from to
 
-  module _ (others : All (λ k. has (number j) k ≡ false) js) where
+  module _ (others : Every (λ k. has (number j) k ≡ false) js) where
     -- and from then on it has ended
     first_ended : Gives q (number j) t j.remaining → (u : ℕ) → end ≤ u → first_unended q t u (j ∷ js) ≡ first_unended q end u js
     first_ended gives u after =

@@ -2,7 +2,7 @@
 use Rattle.std.proofs.Common.{◌≡◌, ℕ, ◌≤◌, true, false, not, List, [], ◌∷◌, sym, refl, ap, ◌∙◌, subst, inl, inr, le_trans, arith}
 use Rattle.std.proofs.ByRecursion.{All-weaker}
 use Rattle.std.proofs.lemmas.Bool.{false≢true, and_parts, and_from, not-true, not_from_false, cases_Bool}
-use Rattle.std.specs.List.{AllByRecursion as All}
+use Rattle.std.specs.List.{AllByRecursion as Every}
 use Rattle.jobs.specs.declared.job.Class.{Class}
 use Rattle.jobs.specs.declared.job.Class.TheVariants.{Hard, Critical}
 use Rattle.jobs.specs.declared.job.Job.{Job}
@@ -37,9 +37,9 @@ pub record GivingLaws (ρ : Parts) (s : State) (j : Job) : Type 0 where
   pub may : (v : Job) (vs : List Job) → victims ρ s j ≡ v ∷ vs → MayGiveWay ρ s j j.mark.class (v ∷ vs)
   pub room : (v : Job) (vs : List Job) → victims ρ s j ≡ v ∷ vs → fits ρ s.clock (without (v ∷ vs) s.ready) j ≡ true
   -- each of them is a ready job, none twice, and gave way lawfully
-  pub own : All (λ v. Among (λ r. r ≡ v) s.ready) (victims ρ s j)
+  pub own : Every (λ v. Among (λ r. r ≡ v) s.ready) (victims ρ s j)
   pub once : (n : ℕ) → count (has n) (victims ρ s j) ≤ count (has n) s.ready
-  pub lawfully : All (λ r. among (victims ρ s j) r ≡ true → GaveWay ρ s j j.mark.class r) s.ready
+  pub lawfully : Every (λ r. among (victims ρ s j) r ≡ true → GaveWay ρ s j j.mark.class r) s.ready
 
 abbrev pub EveryGiving : Type 0
 EveryGiving = (ρ : Parts) (s : State) (j : Job) → TurnedAway ρ s j → GivingLaws ρ s j
@@ -78,26 +78,26 @@ module _ (ρ : Parts) (s : State) (j : Job) where
       (from_yields v h.0 parts.0, others.0, fits_without_one ρ s.clock j v s.ready ∙ others.1)
 
   -- each of a set that may give way and helps is a candidate
-  each_gives : (c : Class) (vs : List Job) → MayGiveWay ρ s j c vs → fits ρ s.clock (without vs s.ready) j ≡ true → All (Gives ρ s j c) vs
-  each_gives Hard vs (inl none) h = subst (All (Gives ρ s j Hard)) (sym none) tt
+  each_gives : (c : Class) (vs : List Job) → MayGiveWay ρ s j c vs → fits ρ s.clock (without vs s.ready) j ≡ true → Every (Gives ρ s j c) vs
+  each_gives Hard vs (inl none) h = subst (Every (Gives ρ s j Hard)) (sym none) tt
   each_gives Hard vs (inr one) h =
       let would : WouldDo ρ s j one.0 = (one.2, one.3, subst (λ l. fits ρ s.clock (without l s.ready) j ≡ true) one.1 h) in
-      subst (All (Gives ρ s j Hard)) (sym one.1) (gives_from one.0 would, tt)
+      subst (Every (Gives ρ s j Hard)) (sym one.1) (gives_from one.0 would, tt)
   each_gives Critical vs may h = All-weaker (Yields ρ s) (Gives ρ s j Critical) (λ v y. (y.0, yields_from v y)) vs may
 
   -- THE CANDIDATES
 
-  all_give : (c : Class) → All (Gives ρ s j c) (candidates_at ρ s j c)
+  all_give : (c : Class) → Every (Gives ρ s j c) (candidates_at ρ s j c)
   all_give c = all_chosen (policy_order ρ) (gives_way ρ s j c) s.ready
 
   -- what holds of each candidate holds of each job that gives way
-  from_candidates : (c : Class) (P : Job → Type 0) → All P (candidates_at ρ s j c) → (v : Job) → Gives ρ s j c v → P v
+  from_candidates : (c : Class) (P : Job → Type 0) → Every P (candidates_at ρ s j c) → (v : Job) → Gives ρ s j c v → P v
   from_candidates c P ps v h = all_among _ v s.ready (all_from_chosen (policy_order ρ) (gives_way ρ s j c) s.ready P ps) h.0 h.1
 
-  all_would_do : All (WouldDo ρ s j) (candidates_at ρ s j Hard)
+  all_would_do : Every (WouldDo ρ s j) (candidates_at ρ s j Hard)
   all_would_do = All-weaker (Gives ρ s j Hard) (WouldDo ρ s j) from_gives (candidates_at ρ s j Hard) (all_give Hard)
 
-  all_yield : All (Yields ρ s) (victims_at ρ s j Critical)
+  all_yield : Every (Yields ρ s) (victims_at ρ s j Critical)
   all_yield = all_enough ρ s.clock j (Yields ρ s) s.ready (candidates_at ρ s j Critical) (All-weaker (Gives ρ s j Critical) (Yields ρ s) (λ v h. from_yields v h.0 h.1) (candidates_at ρ s j Critical) (all_give Critical))
 
   -- THE VICTIMS
@@ -110,14 +110,14 @@ module _ (ρ : Parts) (s : State) (j : Job) where
   may_give_way : (c : Class) → MayGiveWay ρ s j c (victims_at ρ s j c)
   may_give_way Hard = alone (candidates_at ρ s j Hard) all_would_do
     where
-      alone : (cs : List Job) → All (WouldDo ρ s j) cs → MayGiveWay ρ s j Hard (enough ρ s.clock j s.ready cs)
+      alone : (cs : List Job) → Every (WouldDo ρ s j) cs → MayGiveWay ρ s j Hard (enough ρ s.clock j s.ready cs)
       alone [] would = inl refl
       alone (v ∷ vs) would = inr (v, first_alone v vs would.0, would.0.0, would.0.1)
   may_give_way Critical = all_yield
 
   module _ (away : TurnedAway ρ s j) where
     -- and each did so lawfully: to a HARD arrival the first in the policy, as the candidates stand in its order
-    gave_way : (c : Class) → All (GaveWay ρ s j c) (victims_at ρ s j c)
+    gave_way : (c : Class) → Every (GaveWay ρ s j c) (victims_at ρ s j c)
     gave_way Hard = first_best (candidates_at ρ s j Hard) all_would_do (sorted_chosen (policy_order ρ) (gives_way ρ s j Hard) s.ready by_policy) (from_candidates Hard)
       where
         by_policy : Ordered (policy_order ρ)
@@ -126,12 +126,12 @@ module _ (ρ : Parts) (s : State) (j : Job) where
         not_before_itself : (v : Job) → policy_order ρ v v ≡ false
         not_before_itself v = elim (cases_Bool (policy_order ρ v v)) [ inl h ↦ by_policy.asym v v h | inr h ↦ h ]
 
-        first_best : (cs : List Job) → All (WouldDo ρ s j) cs → Sorted (policy_order ρ) cs → ((P : Job → Type 0) → All P cs → (v : Job) → Gives ρ s j Hard v → P v) → All (GaveWay ρ s j Hard) (enough ρ s.clock j s.ready cs)
+        first_best : (cs : List Job) → Every (WouldDo ρ s j) cs → Sorted (policy_order ρ) cs → ((P : Job → Type 0) → Every P cs → (v : Job) → Gives ρ s j Hard v → P v) → Every (GaveWay ρ s j Hard) (enough ρ s.clock j s.ready cs)
         first_best [] would sorted each = tt
         first_best (v ∷ vs) would sorted each =
             let best = each (λ u. policy_order ρ u v ≡ false) (not_before_itself v, sorted.0) in
             let all_best = All-weaker _ (λ u. WouldDo ρ s j u → policy_order ρ u v ≡ false) (λ u _ w. best u (gives_from u w)) s.ready (all_own s.ready) in
-            subst (All (GaveWay ρ s j Hard)) (sym (first_alone v vs would.0)) ((would.0, all_best), tt)
+            subst (Every (GaveWay ρ s j Hard)) (sym (first_alone v vs would.0)) ((would.0, all_best), tt)
     gave_way Critical = all_yield
 
     -- they make room, or not even all the candidates do

@@ -1,7 +1,7 @@
 -- Plans: which job each tick from a start tick on is given to, past the end of the clock too.
 use Rattle.std.specs.Prelude.{◌≡◌, ℕ, zero, suc, ◌+◌, ◌-◌, ◌≤◌, Bool, false, cond, List, [], ◌∷◌, ◌==◌, nat_lt}
 use Rattle.std.proofs.Math.Option.{Option, none, some}
-use Rattle.std.specs.List.{AllByRecursion as All}
+use Rattle.std.specs.List.{AllByRecursion as Every}
 use Rattle.jobs.specs.declared.job.Job.{Job}
 use Rattle.jobs.specs.Records.{number, limit}
 
@@ -25,12 +25,12 @@ pub record Served (p : Plan) (t end : ℕ) (j : Job) : Type 0 where
 
 -- the plan holds the list: each job has ended by its limit
 abbrev pub PlanHolds : Plan → ℕ → List Job → Type 0
-PlanHolds p t js = All (λ j. Served p t (limit j) j) js
+PlanHolds p t js = Every (λ j. Served p t (limit j) j) js
 
 -- no job stands before one with an earlier limit
 abbrev pub FollowsLimits : List Job → Type 0
 FollowsLimits [] = Unit {0}
-FollowsLimits (j ∷ js) = All (λ k. limit j ≤ limit k) js × FollowsLimits js
+FollowsLimits (j ∷ js) = Every (λ k. limit j ≤ limit k) js × FollowsLimits js
 
 -- the first job of the list that has not had all its ticks when the tick u begins
 abbrev pub first_unended : Plan → ℕ → ℕ → List Job → Option ℕ

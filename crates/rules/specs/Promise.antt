@@ -1,6 +1,6 @@
 -- The promise: what holds in every state that calls on a new scheduler can bring about.
 use Rattle.std.specs.Prelude.{◌≡◌, ℕ, ◌+◌, ◌<◌, ◌≤◌, true, false, ◌⊎◌, List, [], ◌∷◌, ◌++◌}
-use Rattle.std.specs.List.{AllByRecursion as All}
+use Rattle.std.specs.List.{AllByRecursion as Every}
 use Rattle.jobs.specs.declared.ending.EndKind.{EndKind}
 use Rattle.jobs.specs.declared.ending.EndKind.TheVariants.{InTime, Missed, Withdrawn}
 use Rattle.jobs.specs.declared.ending.Ending.{Ending}
@@ -32,7 +32,7 @@ SameJob j o = (o.mark ≡ j.mark) × (o.computation ≡ j.computation)
 pub record StandsOnce (s : State) (js : List Job) : Type 0 where
   pub each : (n : ℕ) → standing n s ≡ count (has n) js
   pub once : (n : ℕ) → count (has n) js ≤ 1
-  pub same : All (λ j. Among (SameJob j) js) (s.ready ++ s.parked)
+  pub same : Every (λ j. Among (SameJob j) js) (s.ready ++ s.parked)
 
 -- each list stands in its ranking
 pub record RankedLists (ρ : Parts) (s : State) : Type 0 where
@@ -49,7 +49,7 @@ Yields ρ s v = Among (λ r. r ≡ v) s.ready × (v.mark.class ≡ Hard) × (ρ.
 -- to a HARD arrival may give way nobody, or one job strictly before it in the policy; to a CRITICAL one any set
 abbrev pub MayGiveWay : Parts → State → Job → Class → List Job → Type 0
 MayGiveWay ρ s j Hard vs = (vs ≡ []) ⊎ ((v : Job) × (vs ≡ v ∷ []) × Yields ρ s v × (strictly ρ.policy v j ≡ true))
-MayGiveWay ρ s j Critical vs = All (Yields ρ s) vs
+MayGiveWay ρ s j Critical vs = Every (Yields ρ s) vs
 
 abbrev pub SomeSetHelps : Parts → State → Job → Type 0
 SomeSetHelps ρ s j = (vs : List Job) × MayGiveWay ρ s j j.mark.class vs × (fits ρ s.clock (without vs s.ready) j ≡ true)
@@ -83,11 +83,11 @@ WouldDo ρ s j v = Yields ρ s v × (strictly ρ.policy v j ≡ true) × (fits �
 
 -- r was displaced lawfully: by a HARD arrival, as the first in the policy of the jobs that would do
 abbrev pub GaveWay : Parts → State → Job → Class → Job → Type 0
-GaveWay ρ s j Hard r = WouldDo ρ s j r × All (λ v. WouldDo ρ s j v → policy_order ρ v r ≡ false) s.ready
+GaveWay ρ s j Hard r = WouldDo ρ s j r × Every (λ v. WouldDo ρ s j v → policy_order ρ v r ≡ false) s.ready
 GaveWay ρ s j Critical r = Yields ρ s r
 
 abbrev pub DisplacedLawfully : Parts → State → Job → State → Type 0
-DisplacedLawfully ρ s j s' = All (λ r. some (has (number r)) s'.parked ≡ true → GaveWay ρ s j j.mark.class r) s.ready
+DisplacedLawfully ρ s j s' = Every (λ r. some (has (number r)) s'.parked ≡ true → GaveWay ρ s j j.mark.class r) s.ready
 
 -- 5. ENDINGS
 
@@ -109,29 +109,29 @@ Explained ms e Withdrawn = Unit {0}
 
 -- a job that was missed in this moment was parked, and what it still had to do was more than the time to its limit
 abbrev pub MissedLate : Moment → Type 0
-MissedLate m = All (λ p. Among (λ e. (e.number ≡ number p) × (e.kind ≡ Missed)) m.after.ended → limit p < m.after.clock + p.remaining) m.before.parked
+MissedLate m = Every (λ p. Among (λ e. (e.number ≡ number p) × (e.kind ≡ Missed)) m.after.ended → limit p < m.after.clock + p.remaining) m.before.parked
 
 -- THE WHOLE, of a state and of the moments that led to it
 pub record Sound (ρ : Parts) (s : State) (ms : List Moment) : Type 0 where
   -- 1
   pub stands : StandsOnce s (owed ms [])
   pub ranked : RankedLists ρ s
-  pub lasting : All (λ j. (1 ≤ j.remaining) × (j.remaining ≤ j.computation)) (s.ready ++ s.parked)
+  pub lasting : Every (λ j. (1 ≤ j.remaining) × (j.remaining ≤ j.computation)) (s.ready ++ s.parked)
   -- 2
   pub kept : holds s.clock s.ready ≡ true
   pub worked : (q : Plan) → WorksInOrder q s.clock s.ready → PlanHolds q s.clock s.ready
   pub workable : WorksInOrder (in_order s.clock s.ready) s.clock s.ready
   -- 3
-  pub full : All (λ p. fits ρ s.clock s.ready p ≡ false) s.parked
-  pub no_plan : All (λ p. FollowsLimits (place ρ p s.ready) → (q : Plan) → PlanHolds q s.clock (place ρ p s.ready) → ⊥) s.parked
+  pub full : Every (λ p. fits ρ s.clock s.ready p ≡ false) s.parked
+  pub no_plan : Every (λ p. FollowsLimits (place ρ p s.ready) → (q : Plan) → PlanHolds q s.clock (place ρ p s.ready) → ⊥) s.parked
   -- 4
   pub fair : (a : Arrival) → ParkedOnlyForWant ρ s (job_of s a) (serve ρ s (arrive a)).answer
   pub placed : (a : Arrival) → StandsAsAnswered a.number s (serve ρ s (arrive a)).state (serve ρ s (arrive a)).answer
   pub displaced : (a : Arrival) → DisplacedLawfully ρ s (job_of s a) (serve ρ s (arrive a)).state
   -- 5
-  pub timely : All (LineOf (owed ms [])) s.ended
-  pub late : All MissedLate ms
-  pub explained : All (λ e. Explained ms e e.kind) s.ended
+  pub timely : Every (LineOf (owed ms [])) s.ended
+  pub late : Every MissedLate ms
+  pub explained : Every (λ e. Explained ms e e.kind) s.ended
 
 -- In every state of every run, under any lawful parts, the promise holds.
 abbrev pub EveryRunIsSound : Type 0
@@ -158,4 +158,4 @@ abbrev pub NoPlanByLimit : Type 0
 NoPlanByLimit =
     (ρ : Parts) → LawfulParts ρ → ρ.order ≡ earlier_limit → (ks : List Call) →
     let s = after ρ start ks in
-    All (λ p. (q : Plan) → PlanHolds q s.clock (place ρ p s.ready) → ⊥) s.parked
+    Every (λ p. (q : Plan) → PlanHolds q s.clock (place ρ p s.ready) → ⊥) s.parked

@@ -1,6 +1,6 @@
 -- The ranges that every reached state keeps.
 use Rattle.std.specs.Prelude.{ℕ, ◌+◌, ◌<◌, ◌≤◌, List, ◌++◌}
-use Rattle.std.specs.List.{AllByRecursion as All}
+use Rattle.std.specs.List.{AllByRecursion as Every}
 use Rattle.jobs.specs.declared.ending.Ending.{Ending}
 use Rattle.jobs.specs.declared.job.Job.{Job}
 use Rattle.rules.specs.Promise.{standing}
@@ -26,16 +26,16 @@ pub record LineInRange (t : ℕ) (e : Ending) : Type 0 where
 -- what one tick alone keeps: all but the clock's own range, and that no number stands twice
 pub record Fields (s : State) : Type 0 where
   pub few : population s ≤ 64
-  pub ready : All (JobInRange s.clock) s.ready
-  pub parked : All (JobInRange s.clock) s.parked
-  pub lines : All (LineInRange s.clock) s.ended
+  pub ready : Every (JobInRange s.clock) s.ready
+  pub parked : Every (JobInRange s.clock) s.parked
+  pub lines : Every (LineInRange s.clock) s.ended
 
 pub record InRange (s : State) : Type 0 where
   pub clock : s.clock ≤ 1000000000
   pub few : population s ≤ 64
   pub once : (n : ℕ) → standing n s ≤ 1
-  pub jobs : All (JobInRange s.clock) (s.ready ++ s.parked)
-  pub lines : All (LineInRange s.clock) s.ended
+  pub jobs : Every (JobInRange s.clock) (s.ready ++ s.parked)
+  pub lines : Every (LineInRange s.clock) s.ended
 
 abbrev pub EveryRunInRange : Type 0
 EveryRunInRange = (ρ : Parts) → LawfulParts ρ → (ks : List Call) → InRange (after ρ start ks)

@@ -2,7 +2,7 @@
 use Rattle.std.proofs.Common.{◌≡◌, ℕ, zero, suc, ◌<◌, Bool, true, false, List, [], ◌∷◌, map, length, get_or, take, filter, refl, ap, ◌∙◌, subst, arith}
 use Rattle.std.proofs.ByRecursion.{All-weaker}
 use Rattle.std.proofs.lemmas.Bool.{cond-true, cond-false, eq-eqb, or_left, or_right, or_parts, not_from_true, not_from_false}
-use Rattle.std.specs.List.{remove, AllByRecursion as All}
+use Rattle.std.specs.List.{remove, AllByRecursion as Every}
 use Rattle.jobs.specs.declared.ending.EndKind.TheVariants.{Withdrawn}
 use Rattle.jobs.specs.declared.job.Job.{Job}
 use Rattle.jobs.specs.Records.{number, blank}
@@ -17,11 +17,11 @@ Found n js p = (p < length js) × (number (get_or js p blank) ≡ n) × (some (h
 
 -- LISTS THAT A TEST LEAVES WHOLE, OR EMPTY
 
-kept_whole : {A : Type 0} (test : A → Bool) (xs : List A) → All (λ x. test x ≡ true) xs → filter test xs ≡ xs
+kept_whole : {A : Type 0} (test : A → Bool) (xs : List A) → Every (λ x. test x ≡ true) xs → filter test xs ≡ xs
 kept_whole test [] pass = refl
 kept_whole test (x ∷ xs) pass = cond-true (test x) (x ∷ filter test xs) (filter test xs) pass.0 ∙ ap (λ l. x ∷ l) (kept_whole test xs pass.1)
 
-kept_none : {A : Type 0} (test : A → Bool) (xs : List A) → All (λ x. test x ≡ false) xs → filter test xs ≡ []
+kept_none : {A : Type 0} (test : A → Bool) (xs : List A) → Every (λ x. test x ≡ false) xs → filter test xs ≡ []
 kept_none test [] fail = refl
 kept_none test (x ∷ xs) fail = cond-false (test x) (x ∷ filter test xs) (filter test xs) fail.0 ∙ kept_none test xs fail.1
 
@@ -33,8 +33,8 @@ module _ (n : ℕ) (j : Job) (js : List Job) where
   first_is is = eq-eqb (number j) n is
 
   -- and then no other is
-  rest_differ : Distinct (j ∷ js) → number j ≡ n → All (λ k. has n k ≡ false) js
-  rest_differ apart is = subst (λ m. All (λ k. has m k ≡ false) js) is (others_differ j js apart)
+  rest_differ : Distinct (j ∷ js) → number j ≡ n → Every (λ k. has n k ≡ false) js
+  rest_differ apart is = subst (λ m. Every (λ k. has m k ≡ false) js) is (others_differ j js apart)
 
   -- it is found further on
   first_isnt : (p : ℕ) → Found n (j ∷ js) (suc p) → has n j ≡ false
