@@ -10,7 +10,7 @@ use Rattle.rules.specs.Lists.{count, Among}
 use Rattle.rules.specs.States.{Parts, ready_order, policy_order, answers, ready, has}
 use Rattle.rules.proofs.Candidates.{all_chosen, count_chosen}
 use Rattle.rules.proofs.Enough.{all_enough, count_enough}
-use Rattle.rules.proofs.Lengths.{room_left}
+use Rattle.rules.proofs.Lengths.{room_among}
 use Rattle.admission.specs.Steps.{state, crowd}
 use Rattle.admission.specs.Trials.{Tried}
 use Rattle.admission.specs.declared.trial.Trial.{Trial}
@@ -30,6 +30,6 @@ room ρ t j rs ps few distinct crowded =
     let own = all_enough ρ t j (λ v. Among (λ r. r ≡ v) rs) rs cs (All-weaker _ _ (λ v h. h.0) cs (all_chosen first test rs)) in
     let fewer : (n : ℕ) → count (has n) (victims ρ (state t rs ps []) j) ≤ count (has n) rs =
     λ n. let a = count_enough ρ t j (has n) rs cs in let b = count_chosen first test rs (has n) in omega arith in
-    let both = room_left rs distinct (victims ρ (state t rs ps []) j) own fewer in
+    let both = room_among rs distinct (victims ρ (state t rs ps []) j) own fewer in
     let many = crowded (omega arith) in
     omega arith

@@ -8,7 +8,8 @@ use Rattle.jobs.specs.Records.{number}
 use Rattle.rankings.specs.Ranked.{insert}
 use Rattle.rules.specs.Giving.{among, without}
 use Rattle.rules.specs.Lists.{insert_all, count, Among}
-use Rattle.rules.specs.States.{has}
+use Rattle.rules.specs.States.{State, has}
+use Rattle.rules.proofs.Invariant.{Books}
 use Rattle.rules.proofs.Keeping.{some_count, count_insert, count_insert_all, count_split, count_all, counted}
 use Rattle.rules.proofs.Sweeping.{count_own}
 
@@ -56,8 +57,8 @@ module _ (ready : List Job) (distinct : (n : ℕ) → count (has n) ready ≤ 1)
       let there = counted (has (number v)) (λ r. r ≡ v) (λ r is. eq-eqb (number r) (number v) (ap number is)) ready own.0 in
       omega arith
 
-  pub room_left : (vs : List Job) → Every (λ v. Among (λ r. r ≡ v) ready) vs → ((n : ℕ) → count (has n) vs ≤ count (has n) ready) → length (without vs ready) + length vs ≤ length ready
-  room_left vs own few =
+  pub room_among : (vs : List Job) → Every (λ v. Among (λ r. r ≡ v) ready) vs → ((n : ℕ) → count (has n) vs ≤ count (has n) ready) → length (without vs ready) + length vs ≤ length ready
+  room_among vs own few =
       let gone = leavers vs own (λ n. let a = few n in let c = distinct n in omega arith) in
       let split = length_split (among vs) ready in
       let those = count_kept (among vs) ready in
@@ -69,3 +70,11 @@ module _ (ready : List Job) (distinct : (n : ℕ) → count (has n) ready ≤ 1)
           let ih = count_kept test rs in
           let P : Bool → Type 0 = λ t. cond t 1 0 + count test rs ≡ length (cond t (r ∷ filter test rs) (filter test rs)) in
           elim (test r) as P [ true ↦ omega arith | false ↦ omega arith ]
+
+-- so in a state whose books are kept
+module _ (s : State) (js : List Job) (b : Books s js) where
+  distinct : (n : ℕ) → count (has n) s.ready ≤ 1
+  distinct n = let e = b.each n in let o = b.once n in omega arith
+
+  pub room_left : (vs : List Job) → Every (λ v. Among (λ r. r ≡ v) s.ready) vs → ((n : ℕ) → count (has n) vs ≤ count (has n) s.ready) → length (without vs s.ready) + length vs ≤ length s.ready
+  room_left vs own few = room_among s.ready distinct vs own few

@@ -87,8 +87,7 @@ module _ (ρ : Parts) (laws : LawfulParts ρ) where
           let aside : State = record { clock = s.clock; ready = place ρ j left; parked = insert_all (parked_order ρ) vs s.parked; ended = s.ended } in
           let more = length_insert (ready_order ρ) j left in
           let parked = length_insert_all (parked_order ρ) vs s.parked in
-          let once : (n : ℕ) → count (has n) s.ready ≤ 1 = λ n. let e = i.books.each n in let o = i.books.once n in omega arith in
-          let both = room_left s.ready once vs own few in
+          let both = room_left s js i.books vs own few in
           let held : Fields aside = record {
             few = let free = below in omega arith;
             ready = all_insert (ready_order ρ) j _ left new_in_range (all_kept _ (λ r. not (among vs r)) s.ready f.ready);
