@@ -5,7 +5,7 @@
 --   count test xs            how many records of xs pass the test
 --   Among P xs               P holds of some record of xs
 --
--- `kept_by test xs`, of the standard library, is xs without the records that fail the test.
+-- `filter test xs`, of the standard library, is xs without the records that fail the test.
 use Rattle.std.specs.Prelude.{ℕ, ◌+◌, Bool, false, cond, ◌||◌, ◌⊎◌, List, [], ◌∷◌}
 use Rattle.rankings.specs.Ranked.{insert}
 
