@@ -1,83 +1,57 @@
 -- The parked jobs that can no longer make their limits end, job by job.
-use Rattle.std.proofs.Common.{◌≡◌, ℕ, ◌+◌, ◌<◌, ◌≤◌, true, false, cond, not, List, [], ◌∷◌, ◌++◌, map, length, get_or, take, drop, filter, sym, refl, ap, ◌∙◌, append_assoc, append-nil, arith}
-use Rattle.std.proofs.lemmas.List.{at_drop_more, at_drop_all, take_more}
-use Rattle.std.specs.List.{remove}
-use Rattle.jobs.specs.Records.{blank}
+use Rattle.std.proofs.Common.{◌≡◌, ℕ, ◌+◌, ◌<◌, ◌≤◌, Bool, true, false, cond, not, List, [], ◌∷◌, map, length, filter, Ok, Err, Result, inl, inr, sym, ap, ◌∙◌, arith}
+use Rattle.std.proofs.lemmas.Bool.{cond-true, cond-false, cond_both}
 use Rattle.jobs.specs.declared.ending.EndKind.TheVariants.{Missed}
 use Rattle.jobs.specs.declared.ending.Ending.{Ending}
 use Rattle.jobs.specs.declared.job.Job.{Job}
+use Rattle.jobs.specs.declared.refusal.Refusal.{Refusal}
 use Rattle.rankings.specs.Ranked.{insert}
 use Rattle.rules.proofs.Lengths.{length_insert}
-use Rattle.rules.specs.Calls.{ends, late, expire}
+use Rattle.rules.specs.Calls.{ends, late}
 use Rattle.rules.specs.Lists.{insert_all}
-use Rattle.rules.specs.States.{ended_order}
-use Rattle.admission.specs.Steps.{state}
-use Rattle.admission.proofs.Outtakes.{taken_front, taken_rest, taken_fewer, all_before}
+use Rattle.rules.specs.States.{State, ended_order}
+use Rattle.admission.specs.Retaining.{Retains}
+use Rattle.admission.specs.Steps.{state, ExpiresOne, Expires}
+use Rattle.admission.proofs.Answered.{not_false, not_true}
 
--- the jobs that still can, and the endings with the lines of those that cannot
-abbrev lasting : ℕ → List Job → List Job
-lasting t ps = filter (λ j. not (late t j)) ps
+module _ (t : ℕ) where
+  abbrev pub One : Unit {0} → List Ending → Job → Result Bool Refusal → Unit {0} → List Ending → Type 0
+  One _ es j r _ es' = ExpiresOne t j es es' r
 
-abbrev missed : ℕ → List Job → List Ending → List Ending
-missed t ps es = insert_all ended_order (map (ends t Missed) (filter (late t) ps)) es
+  -- the jobs that still can, and the endings with the lines of those that cannot
+  abbrev lasting : List Job → List Job
+  lasting ps = filter (λ j. not (late t j)) ps
 
--- at the place i of the parked jobs ps: those to come give the whole
-pub record Expiry (t : ℕ) (ps₀ : List Job) (es₀ : List Ending) (ps : List Job) (es : List Ending) (i : ℕ) : Type 0 where
-  pub stay : take i ps ++ lasting t (drop i ps) ≡ lasting t ps₀
-  pub go : missed t (drop i ps) es ≡ missed t ps₀ es₀
-  pub many : length ps + length es ≡ length ps₀ + length es₀
+  abbrev missed : List Job → List Ending → List Ending
+  missed ps es = insert_all ended_order (map (ends t Missed) (filter (late t) ps)) es
 
-module _ (t : ℕ) (ps₀ : List Job) (es₀ : List Ending) where
-  pub expiry_none : Expiry t ps₀ es₀ ps₀ es₀ 0
-  expiry_none = record { stay = refl; go = refl; many = refl }
+  stay : (b : Bool) (j : Job) (ps zs : List Job) → b ≡ not (late t j) → lasting ps ≡ zs → lasting (j ∷ ps) ≡ cond b (j ∷ zs) zs
+  stay b j ps zs is h = ap (λ b. cond b (j ∷ lasting ps) (lasting ps)) (sym is) ∙ ap (λ l. cond b (j ∷ l) l) h
 
-  module _ (ps : List Job) (es : List Ending) (i : ℕ) (within : i < length ps) (so_far : Expiry t ps₀ es₀ ps es i) where
-    stay_next : lasting t (drop i ps) ≡ cond (not (late t (get_or ps i blank))) (get_or ps i blank ∷ lasting t (drop (i + 1) ps)) (lasting t (drop (i + 1) ps))
-    stay_next = at_drop_more (lasting t) ps i blank within
+  go : (b : Bool) (j : Job) (ps : List Job) (es is es' : List Ending) → b ≡ not (late t j) → is ≡ cond b es (insert ended_order (ends t Missed j) es) → missed ps is ≡ es' → missed (j ∷ ps) es ≡ es'
+  go true j ps es is es' stays put h = ap (λ l. insert_all ended_order (map (ends t Missed) l) es) (cond-false _ _ _ (not_false _ stays)) ∙ ap (missed ps) (sym put) ∙ h
+  go false j ps es is es' stays put h = ap (λ l. insert_all ended_order (map (ends t Missed) l) es) (cond-true _ _ _ (not_true _ stays)) ∙ ap (missed ps) (sym put) ∙ h
 
-    go_next : missed t (drop i ps) es ≡ insert_all ended_order (map (ends t Missed) (cond (late t (get_or ps i blank)) (get_or ps i blank ∷ filter (late t) (drop (i + 1) ps)) (filter (late t) (drop (i + 1) ps)))) es
-    go_next = at_drop_more (λ l. missed t l es) ps i blank within
+  longer : (b : Bool) (x : Ending) (es : List Ending) → length (cond b es (insert ended_order x es)) ≤ length es + 1
+  longer b x es = let h = length_insert ended_order x es in cond_both b es (insert ended_order x es) (λ l. length l ≤ length es + 1) (λ _. omega arith) (λ _. omega arith)
 
-    pub expiry_stays : late t (get_or ps i blank) ≡ false → Expiry t ps₀ es₀ ps es (i + 1)
-    expiry_stays no' =
-        let rest = lasting t (drop (i + 1) ps) in
-        let here = stay_next ∙ ap (λ b. cond (not b) (get_or ps i blank ∷ rest) rest) no' in
-        let gone = go_next ∙ ap (λ b. insert_all ended_order (map (ends t Missed) (cond b (get_or ps i blank ∷ filter (late t) (drop (i + 1) ps)) (filter (late t) (drop (i + 1) ps)))) es) no' in
-        record {
-          stay = ap (λ l. l ++ rest) (take_more ps i blank within) ∙ append_assoc (take i ps) (get_or ps i blank ∷ []) rest ∙ ap (λ l. take i ps ++ l) (sym here) ∙ so_far.stay;
-          go = sym gone ∙ so_far.go;
-          many = so_far.many;
-        }
+  -- what stays and what goes, or that there was no room
+  abbrev Done : List Job → List Ending → List Job → List Ending → Result (Unit {0}) Refusal → Type 0
+  Done ps es ps' es' (Ok _) = (lasting ps ≡ ps') × (missed ps es ≡ es')
+  Done ps es ps' es' (Err e) = 64 < length ps + length es
 
-    pub expiry_goes : (ps' : List Job) (es' : List Ending) → late t (get_or ps i blank) ≡ true → ps' ≡ remove ps i → es' ≡ insert ended_order (ends t Missed (get_or ps i blank)) es → Expiry t ps₀ es₀ ps' es' i
-    expiry_goes ps' es' yes' out line =
-        let rest = lasting t (drop (i + 1) ps) in
-        let here = stay_next ∙ ap (λ b. cond (not b) (get_or ps i blank ∷ rest) rest) yes' in
-        let gone = go_next ∙ ap (λ b. insert_all ended_order (map (ends t Missed) (cond b (get_or ps i blank ∷ filter (late t) (drop (i + 1) ps)) (filter (late t) (drop (i + 1) ps)))) es) yes' in
-        record {
-          stay =
-              (λ k. take i (out k) ++ lasting t (drop i (out k)))
-              ∙ (λ k. taken_front ps i within k ++ lasting t (taken_rest ps i within k))
-              ∙ ap (λ l. take i ps ++ l) (sym here)
-              ∙ so_far.stay;
-          go =
-              (λ k. missed t (drop i (out k)) (line k))
-              ∙ (λ k. missed t (taken_rest ps i within k) (insert ended_order (ends t Missed (get_or ps i blank)) es))
-              ∙ sym gone
-              ∙ so_far.go;
-          many =
-              let a = ap length out in
-              let b = ap length line in
-              let c = length_insert ended_order (ends t Missed (get_or ps i blank)) es in
-              let d = taken_fewer ps i within in
-              let e = so_far.many in
-              omega arith;
-        }
+  done : (es : List Ending) (ps ps' : List Job) (es' : List Ending) (r : Result (Unit {0}) Refusal) → Retains One tt es ps ps' es' r → Done ps es ps' es' r
+  done es [] ps' es' (Ok _) h = (sym h.0, sym h.1)
+  done es (j ∷ ps) ps' es' (Ok u) h =
+      let rest = done h.2 ps h.3 es' (Ok u) h.5 in
+      (stay h.0 j ps h.3 h.4.0 rest.0 ∙ sym h.6, go h.0 j ps es h.2 es' h.4.0 h.4.1 rest.1)
+  done es [] ps' es' (Err e) h = absurd h
+  done es (j ∷ ps) ps' es' (Err e) h =
+      elim h [
+        | inl w ↦ omega (arith, w.1)
+        | inr w ↦ let more = done w.2 ps w.3 es' (Err e) w.5 in omega (arith, ap length w.4.1, longer w.0 (ends t Missed j) es)
+      ]
 
-  pub expiry_all : (ps : List Job) (es : List Ending) (i : ℕ) → length ps ≤ i → Expiry t ps₀ es₀ ps es i → (rs : List Job) → expire (state t rs ps₀ es₀) ≡ state t rs ps es
-  expiry_all ps es i past so_far rs =
-      let none : lasting t (drop i ps) ≡ [] = at_drop_all (lasting t) ps i past in
-      let end : missed t (drop i ps) es ≡ es = at_drop_all (λ l. missed t l es) ps i past in
-      let stay = sym so_far.stay ∙ ap (λ l. take i ps ++ l) none ∙ append-nil (take i ps) ∙ all_before ps i past in
-      let go = sym so_far.go ∙ end in
-      (λ k. state t rs (stay k) (go k))
+pub expired_in_turn : (s : State) (ps' : List Job) (es' : List Ending) (r : Result (Unit {0}) Refusal) → Retains (One s.clock) tt s.ended s.parked ps' es' r → Expires s (state s.clock s.ready ps' es') r
+expired_in_turn s ps' es' (Ok u) h = let d = done s.clock s.ended s.parked ps' es' (Ok u) h in λ k. state s.clock s.ready (d.0 k) (d.1 k)
+expired_in_turn s ps' es' (Err e) h = done s.clock s.ended s.parked ps' es' (Err e) h

@@ -1,8 +1,9 @@
 pub mod Among
+pub mod Answered
+pub mod Asking
 pub mod Choosing
 pub mod Deciding
 pub mod Expiring
-pub mod Firsts
 pub mod Fronting
 pub mod Lawful
 pub mod Leaving
@@ -15,5 +16,4 @@ pub mod Places
 pub mod Reading
 pub mod Rounds
 pub mod Seeking
-pub mod Standing
 pub mod Trying

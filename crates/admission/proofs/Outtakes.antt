@@ -1,7 +1,6 @@
 -- A list from which the record at a place was taken out: what stands before the place, and what behind.
-use Rattle.std.proofs.Common.{◌≡◌, ℕ, suc, ◌+◌, ◌<◌, ◌≤◌, List, ◌++◌, length, take, drop, sym, ap, ◌∙◌, append-nil, add-one, arith, take-append-drop, length-take}
-use Rattle.std.proofs.lemmas.List.Edits.{length-remove}
-use Rattle.std.proofs.lemmas.List.{take_at, drop_at, drop_all}
+use Rattle.std.proofs.Common.{◌≡◌, ℕ, suc, ◌+◌, ◌<◌, List, length, take, drop, sym, ap, ◌∙◌, add-one, arith, length-take}
+use Rattle.std.proofs.lemmas.List.{take_at, drop_at}
 use Rattle.std.specs.List.{remove}
 
 module _ {A : Type 0} (xs : List A) (i : ℕ) where
@@ -10,10 +9,3 @@ module _ {A : Type 0} (xs : List A) (i : ℕ) where
 
   pub taken_rest : i < length xs → drop i (remove xs i) ≡ drop (i + 1) xs
   taken_rest within = drop_at (take i xs) (drop (suc i) xs) i (length-take i xs ∙ omega arith) ∙ ap (λ n. drop n xs) (sym (add-one i))
-
-  pub taken_fewer : i < length xs → length (remove xs i) + 1 ≡ length xs
-  taken_fewer within = length-remove xs i within
-
-  -- the whole list stands before its end
-  pub all_before : length xs ≤ i → take i xs ≡ xs
-  all_before past = sym (append-nil (take i xs)) ∙ ap (λ l. take i xs ++ l) (sym (drop_all i xs past)) ∙ take-append-drop i xs

@@ -17,17 +17,11 @@ module _ (i : ℕ) (js : List Job) (within : i < length js) where
   pub read_job : (j : Job) → Ok j ≡ read_at i js → j ≡ get_or js i blank
   read_job j is = let same = is ∙ read_there in cc
 
-  pub read_kept : (e : Refusal) → Err e ≡ read_at i js → ⊥
-  read_kept e is = never (get_or js i blank) e (sym (is ∙ read_there))
-
   take_there : take_at i js ≡ Ok (remove js i)
   take_there = cond-true _ _ _ (lt-ltb i (length js) within)
 
   pub taken : (js' : List Job) → take_at i js ≡ Ok js' → js' ≡ remove js i
   taken js' is = let same = sym is ∙ take_there in cc
-
-  pub take_kept : (e : Refusal) → take_at i js ≡ Err e → ⊥
-  take_kept e is = never (remove js i) e (sym take_there ∙ is)
 
 -- a job is put in wherever there is room
 module _ (i : ℕ) (j : Job) (js : List Job) (within : i ≤ length js) (room : length js < 64) where

@@ -1,67 +1,44 @@
 -- A sweep, parked job by parked job.
-use Rattle.std.proofs.Common.{◌≡◌, ℕ, ◌+◌, ◌<◌, ◌≤◌, true, false, cond, List, [], ◌∷◌, ◌++◌, length, get_or, take, drop, sym, refl, ap, ◌∙◌, append_assoc, append-nil, arith}
-use Rattle.std.proofs.lemmas.List.{at_drop_more, at_drop_all, take_more}
-use Rattle.std.specs.List.{remove}
-use Rattle.jobs.specs.Records.{blank}
+use Rattle.std.proofs.Common.{◌≡◌, ℕ, ◌+◌, ◌<◌, ◌≤◌, Bool, true, false, cond, not, List, [], ◌∷◌, length, Ok, Err, Result, inl, inr, sym, ap, ◌∙◌, arith}
+use Rattle.std.proofs.lemmas.Bool.{cond-true, cond-false, cond_both}
 use Rattle.jobs.specs.declared.job.Job.{Job}
+use Rattle.jobs.specs.declared.refusal.Refusal.{Refusal}
 use Rattle.rules.proofs.Lengths.{length_insert}
 use Rattle.rules.specs.Giving.{place, fits, Swept, left_parked, sweep}
-use Rattle.rules.specs.States.{Parts, ready_order}
-use Rattle.admission.specs.Steps.{lists}
-use Rattle.admission.proofs.Outtakes.{taken_front, taken_rest, taken_fewer, all_before}
+use Rattle.rules.specs.States.{Parts, State, ready_order}
+use Rattle.admission.specs.Retaining.{Retains}
+use Rattle.admission.specs.Steps.{state, SweepsOne, Sweeps}
+use Rattle.admission.proofs.Answered.{not_false, not_true}
 
--- those that were passed stay parked
-abbrev pub after_those : List Job → Swept → Swept
-after_those front w = record { ready = w.ready; parked = front ++ w.parked }
+abbrev lists : List Job → List Job → Swept
+lists rs ps = record { ready = rs; parked = ps }
 
--- a sweep that has come to the place i of the parked jobs ps: those to come give the whole
-pub record Round (ρ : Parts) (t : ℕ) (rs₀ ps₀ rs ps : List Job) (i : ℕ) : Type 0 where
-  pub whole : after_those (take i ps) (sweep ρ t rs (drop i ps)) ≡ sweep ρ t rs₀ ps₀
-  pub many : length rs + length ps ≡ length rs₀ + length ps₀
+module _ (ρ : Parts) (t : ℕ) where
+  abbrev pub One : Unit {0} → List Job → Job → Result Bool Refusal → Unit {0} → List Job → Type 0
+  One _ rs j r _ rs' = SweepsOne ρ t j rs rs' r
 
-module _ (ρ : Parts) (t : ℕ) (rs₀ ps₀ : List Job) where
-  pub round_none : Round ρ t rs₀ ps₀ rs₀ ps₀ 0
-  round_none = record { whole = refl; many = refl }
+  step : (b : Bool) (j : Job) (rs rs' ps us zs : List Job) → b ≡ not (fits ρ t rs j) → rs' ≡ cond b rs (place ρ j rs) → sweep ρ t rs' ps ≡ lists us zs → sweep ρ t rs (j ∷ ps) ≡ lists us (cond b (j ∷ zs) zs)
+  step true j rs rs' ps us zs is put h = cond-false _ _ _ (not_false _ is) ∙ ap (left_parked j) (ap (λ l. sweep ρ t l ps) (sym put) ∙ h)
+  step false j rs rs' ps us zs is put h = cond-true _ _ _ (not_true _ is) ∙ ap (λ l. sweep ρ t l ps) (sym put) ∙ h
 
-  module _ (rs ps : List Job) (i : ℕ) (within : i < length ps) (so_far : Round ρ t rs₀ ps₀ rs ps i) where
-    p : Job
-    p = get_or ps i blank
+  longer : (b : Bool) (j : Job) (rs : List Job) → length (cond b rs (place ρ j rs)) ≤ length rs + 1
+  longer b j rs = let h = length_insert (ready_order ρ) j rs in cond_both b rs (place ρ j rs) (λ l. length l ≤ length rs + 1) (λ _. omega arith) (λ _. omega arith)
 
-    next : sweep ρ t rs (drop i ps) ≡ cond (fits ρ t rs (get_or ps i blank)) (sweep ρ t (place ρ (get_or ps i blank) rs) (drop (i + 1) ps)) (left_parked (get_or ps i blank) (sweep ρ t rs (drop (i + 1) ps)))
-    next = at_drop_more (sweep ρ t rs) ps i blank within
+  -- the lists that a sweep leaves, or that there was no room
+  abbrev Done : List Job → List Job → List Job → List Job → Result (Unit {0}) Refusal → Type 0
+  Done rs ps rs' ps' (Ok _) = sweep ρ t rs ps ≡ lists rs' ps'
+  Done rs ps rs' ps' (Err e) = 64 < length rs + length ps
 
-    pub round_left : fits ρ t rs (get_or ps i blank) ≡ false → Round ρ t rs₀ ps₀ rs ps (i + 1)
-    round_left no' =
-        let rest = sweep ρ t rs (drop (i + 1) ps) in
-        let here = next ∙ ap (λ b. cond b (sweep ρ t (place ρ (get_or ps i blank) rs) (drop (i + 1) ps)) (left_parked (get_or ps i blank) rest)) no' in
-        record {
-          whole =
-              ap (λ l. record { ready = rest.ready; parked = l }) (ap (λ l. l ++ rest.parked) (take_more ps i blank within) ∙ append_assoc (take i ps) (get_or ps i blank ∷ []) rest.parked)
-              ∙ ap (after_those (take i ps)) (sym here)
-              ∙ so_far.whole;
-          many = so_far.many;
-        }
+  done : (rs ps ps' rs' : List Job) (r : Result (Unit {0}) Refusal) → Retains One tt rs ps ps' rs' r → Done rs ps rs' ps' r
+  done rs [] ps' rs' (Ok _) h = (λ k. lists (sym h.1 k) (sym h.0 k))
+  done rs (j ∷ ps) ps' rs' (Ok u) h = step h.0 j rs h.2 ps rs' h.3 h.4.0 h.4.1 (done h.2 ps h.3 rs' (Ok u) h.5) ∙ ap (lists rs') (sym h.6)
+  done rs [] ps' rs' (Err e) h = absurd h
+  done rs (j ∷ ps) ps' rs' (Err e) h =
+      elim h [
+        | inl w ↦ omega (arith, w.1)
+        | inr w ↦ let more = done w.2 ps w.3 rs' (Err e) w.5 in omega (arith, ap length w.4.1, longer w.0 j rs)
+      ]
 
-    pub round_taken : (rs' ps' : List Job) → fits ρ t rs (get_or ps i blank) ≡ true → rs' ≡ place ρ (get_or ps i blank) rs → ps' ≡ remove ps i → Round ρ t rs₀ ps₀ rs' ps' i
-    round_taken rs' ps' yes' put out =
-        let rest = sweep ρ t (place ρ (get_or ps i blank) rs) (drop (i + 1) ps) in
-        let here = next ∙ ap (λ b. cond b rest (left_parked (get_or ps i blank) (sweep ρ t rs (drop (i + 1) ps)))) yes' in
-        record {
-          whole =
-              (λ k. after_those (take i (out k)) (sweep ρ t (put k) (drop i (out k))))
-              ∙ (λ k. after_those (taken_front ps i within k) (sweep ρ t (place ρ (get_or ps i blank) rs) (taken_rest ps i within k)))
-              ∙ ap (after_those (take i ps)) (sym here)
-              ∙ so_far.whole;
-          many =
-              let a = ap length put in
-              let b = ap length out in
-              let c = length_insert (ready_order ρ) (get_or ps i blank) rs in
-              let d = taken_fewer ps i within in
-              let e = so_far.many in
-              omega arith;
-        }
-
-  pub round_all : (rs ps : List Job) (i : ℕ) → length ps ≤ i → Round ρ t rs₀ ps₀ rs ps i → sweep ρ t rs₀ ps₀ ≡ lists rs ps
-  round_all rs ps i past so_far =
-      let last : after_those (take i ps) (sweep ρ t rs (drop i ps)) ≡ after_those (take i ps) (lists rs []) = at_drop_all (λ l. after_those (take i ps) (sweep ρ t rs l)) ps i past in
-      sym so_far.whole ∙ last ∙ ap (lists rs) (append-nil (take i ps) ∙ all_before ps i past)
+pub swept_in_turn : (ρ : Parts) (s : State) (ps' rs' : List Job) (r : Result (Unit {0}) Refusal) → Retains (One ρ s.clock) tt s.ready s.parked ps' rs' r → Sweeps ρ s (state s.clock rs' ps' s.ended) r
+swept_in_turn ρ s ps' rs' (Ok u) h = let d = done ρ s.clock s.ready s.parked ps' rs' (Ok u) h in λ k. state s.clock (d k).ready (d k).parked s.ended
+swept_in_turn ρ s ps' rs' (Err e) h = done ρ s.clock s.ready s.parked ps' rs' (Err e) h

@@ -3,9 +3,17 @@ use Rattle.std.specs.Prelude.{Bool}
 use Rattle.jobs.specs.declared.job.Job.{Job}
 use Rattle.jobs.specs.declared.job.Mark.{Mark}
 use Rattle.rankings.specs.Rankings.{larger_value}
+use Rattle.rankings.specs.declared.ranking.Ranking.{Ghosts as RankingOf}
 use Rattle.rules.specs.States.{Parts}
 use Rattle.admission.specs.declared.discipline.Discipline.{Discipline}
 
--- given what its order, its policy and what the policy spares mean; parked jobs stand by larger value
-abbrev pub parts : {O P : Type 0} → (O → Mark → Mark → Bool) → (P → Job → Job → Bool) → (P → Job → Bool) → Discipline O P → Parts
-parts may prefers spares d = record { order = may d.order.0; policy = prefers d.policy; spared = spares d.policy; parking = larger_value }
+-- what a policy means: its ranking, and the jobs that it spares
+abbrev pub PolicyOf : Type 0 → Type 0
+PolicyOf P = record { may : P → Job → Job → Bool; spared : P → Job → Bool }
+
+abbrev pub policy_of : {P : Type 0} → (P → Job → Job → Bool) → (P → Job → Bool) → PolicyOf P
+policy_of may spared = record { may = may; spared = spared }
+
+-- given what its order and its policy mean; parked jobs stand by larger value
+abbrev pub parts : {O P : Type 0} → RankingOf O Mark → PolicyOf P → Discipline O P → Parts
+parts order policy d = record { order = order.may d.order.0; policy = policy.may d.policy; spared = policy.spared d.policy; parking = larger_value }

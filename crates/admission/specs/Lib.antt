@@ -1,3 +1,5 @@
 pub mod Disciplines
+pub mod Retaining
+pub mod Rosters
 pub mod Steps
 pub mod Trials

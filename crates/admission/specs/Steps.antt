@@ -1,21 +1,23 @@
--- What each step does to the lists: the ready jobs rs, the parked jobs ps and the endings es.
+-- What each step of a roster does: it leads from the state s to s'.
 --
 -- A step that needs room says of a refusal where the room was wanting, so that whoever has it knows that the step is done.
-use Rattle.std.specs.Prelude.{◌≡◌, ℕ, ◌+◌, ◌<◌, ◌≤◌, Bool, false, List, [], ◌∷◌, length, take, Some, None, Ok, Err, Option, Result, slice_index_or}
+use Rattle.std.specs.Prelude.{◌≡◌, ℕ, ◌+◌, ◌<◌, ◌≤◌, Bool, false, cond, not, List, [], ◌∷◌, length, take, Some, None, Ok, Err, Option, Result, slice_index_or}
 use Rattle.std.specs.List.{remove, AllByRecursion as Every}
 use Rattle.jobs.specs.Records.{number, blank}
 use Rattle.jobs.specs.declared.ending.EndKind.{EndKind}
+use Rattle.jobs.specs.declared.ending.EndKind.TheVariants.{Missed}
 use Rattle.jobs.specs.declared.ending.Ending.{Ending}
 use Rattle.jobs.specs.declared.job.Job.{Job}
 use Rattle.jobs.specs.declared.refusal.Refusal.{Refusal}
 use Rattle.rankings.specs.Ranked.{insert}
-use Rattle.rules.specs.Calls.{name_displacer, make_way, admit, ends, worked, last_tick, expire, tick}
-use Rattle.rules.specs.Giving.{Swept, sweep, among, without, gives_way, candidates, enough, victims}
+use Rattle.rules.specs.Calls.{name_displacer, make_way, admit, ends, worked, last_tick, late, expire, tick}
+use Rattle.rules.specs.Giving.{place, fits, swept, among, without, gives_way, candidates, enough, victims}
 use Rattle.rules.specs.Lists.{insert_all, some, count}
 use Rattle.rules.specs.Ranges.{Fields}
-use Rattle.rules.specs.States.{Parts, ended_order, State, Answer, ready, parked, answers, has}
+use Rattle.rules.specs.States.{Parts, ended_order, State, Answer, ready, parked, answers, has, population}
+use Rattle.timing.specs.Overruns.{exceeding_of, cause_of}
 use Rattle.stores.specs.Tables.{listed}
-use Rattle.stores.specs.declared.table.JobTable.{JobTable}
+use Rattle.stores.specs.declared.table.RecordTable.{RecordTable}
 use Rattle.admission.specs.declared.admitting.Admission.{Admission}
 use Rattle.admission.specs.declared.admitting.Verdict.{Verdict}
 use Rattle.admission.specs.declared.admitting.Verdict.TheVariants.{Ready, Parked}
@@ -23,33 +25,65 @@ use Rattle.admission.specs.declared.admitting.Verdict.TheVariants.{Ready, Parked
 abbrev pub state : ℕ → List Job → List Job → List Ending → State
 state t rs ps es = record { clock = t; ready = rs; parked = ps; ended = es }
 
-abbrev pub lists : List Job → List Job → Swept
-lists rs ps = record { ready = rs; parked = ps }
+-- a state with another ready, parked or ended list
+
+abbrev pub with_ready : List Job → State → State
+with_ready rs s = state s.clock rs s.parked s.ended
+
+abbrev pub with_parked : List Job → State → State
+with_parked ps s = state s.clock s.ready ps s.ended
+
+abbrev pub with_ended : List Ending → State → State
+with_ended es s = state s.clock s.ready s.parked es
+
+-- what a step leaves alone, also where it is refused
+
+abbrev pub KeepsClock : State → State → Type 0
+KeepsClock s s' = s'.clock ≡ s.clock
+
+abbrev pub KeepsEndings : State → State → Type 0
+KeepsEndings s s' = (s'.clock ≡ s.clock) × (s'.ended ≡ s.ended)
+
+abbrev pub KeepsOthers : State → State → Type 0
+KeepsOthers s s' = (s'.clock ≡ s.clock) × (s'.parked ≡ s.parked) × (s'.ended ≡ s.ended)
+
+-- the clock of a scheduler does not leave its range
+abbrev pub KeepsRange : State → State → Type 0
+KeepsRange s s' = s.clock ≤ 1000000000 → s'.clock ≤ 1000000000
+
+abbrev pub KeepsReady : State → State → Type 0
+KeepsReady s s' = (s'.clock ≡ s.clock) × (s'.ready ≡ s.ready)
 
 -- BECOMING READY
 
-abbrev pub Enqueues : (Job → Job → Bool) → Job → List Job → List Job → Result (Unit {0}) Refusal → Type 0
-Enqueues first j rs rs' (Ok _) = rs' ≡ insert first j rs
-Enqueues first j rs rs' (Err e) = 64 ≤ length rs
+abbrev pub Enqueues : Parts → Job → State → State → Result (Unit {0}) Refusal → Type 0
+Enqueues ρ j s s' (Ok _) = s' ≡ with_ready (place ρ j s.ready) s
+Enqueues ρ j s s' (Err e) = 64 ≤ length s.ready
 
-abbrev pub Sweeps : Parts → ℕ → List Job → List Job → List Job → List Job → Result (Unit {0}) Refusal → Type 0
-Sweeps ρ t rs ps rs' ps' (Ok _) = sweep ρ t rs ps ≡ lists rs' ps'
-Sweeps ρ t rs ps rs' ps' (Err e) = 64 < length rs + length ps
+-- the parked job j becomes one of the ready jobs rs if it fits, and else stays parked
+abbrev pub SweepsOne : Parts → ℕ → Job → List Job → List Job → Result Bool Refusal → Type 0
+SweepsOne ρ t j rs rs' (Ok stays) = (stays ≡ not (fits ρ t rs j)) × (rs' ≡ cond stays rs (place ρ j rs))
+SweepsOne ρ t j rs rs' (Err e) = 64 ≤ length rs
+
+abbrev pub Sweeps : Parts → State → State → Result (Unit {0}) Refusal → Type 0
+Sweeps ρ s s' (Ok _) = swept ρ s ≡ s'
+Sweeps ρ s s' (Err e) = 64 < length s.ready + length s.parked
 
 -- GIVING WAY
 
-abbrev pub TellsWho : Parts → ℕ → List Job → Job → Job → Result Bool Refusal → Type 0
-TellsWho ρ t rs j v (Ok b) = b ≡ gives_way ρ (state t rs [] []) j j.mark.class v
-TellsWho ρ t rs j v (Err e) = 64 ≤ length rs
+abbrev pub TellsWho : Parts → State → Job → Job → Result Bool Refusal → Type 0
+TellsWho ρ s j v (Ok b) = b ≡ gives_way ρ s j j.mark.class v
+TellsWho ρ s j v (Err e) = 64 ≤ length s.ready
 
-abbrev pub FindsCandidates : Parts → ℕ → List Job → Job → Result JobTable Refusal → Type 0
-FindsCandidates ρ t rs j (Ok found) = listed found ≡ candidates ρ (state t rs [] []) j
-FindsCandidates ρ t rs j (Err e) = 64 ≤ length rs
+abbrev pub FindsCandidates : Parts → State → Job → Result (RecordTable Job) Refusal → Type 0
+FindsCandidates ρ s j (Ok found) = listed found ≡ candidates ρ s j
+FindsCandidates ρ s j (Err e) = 64 ≤ length s.ready
 
--- the first n of the candidates cs are enough
-abbrev pub FindsEnough : Parts → ℕ → List Job → Job → List Job → Result ℕ Refusal → Type 0
-FindsEnough ρ t rs j cs (Ok n) = (n ≤ length cs) × (take n cs ≡ enough ρ t j rs cs)
-FindsEnough ρ t rs j cs (Err e) = 64 ≤ length rs
+-- the first n of the candidates cs are enough, or even all of them are not
+abbrev pub FindsEnough : Parts → State → Job → List Job → Result (Option ℕ) Refusal → Type 0
+FindsEnough ρ s j cs (Ok (Some n)) = (1 ≤ n) × (n ≤ length cs) × (take n cs ≡ enough ρ s.clock j s.ready cs)
+FindsEnough ρ s j cs (Ok None) = enough ρ s.clock j s.ready cs ≡ []
+FindsEnough ρ s j cs (Err e) = 64 ≤ length s.ready
 
 abbrev pub LeavesOut : List Job → List Job → List Job → Result (Unit {0}) Refusal → Type 0
 LeavesOut vs rs rs' (Ok _) = rs' ≡ without vs rs
@@ -59,45 +93,42 @@ abbrev pub Parks : (Job → Job → Bool) → List Job → List Job → List Job
 Parks first vs ps ps' (Ok _) = ps' ≡ insert_all first vs ps
 Parks first vs ps ps' (Err e) = 64 < length vs + length ps
 
-abbrev pub Names : ℕ → List Job → List Job → List Job → Result ℕ Refusal → Type 0
-Names n vs ps ps' (Ok k) = (ps' ≡ name_displacer vs n ps) × (k ≡ count (among vs) ps')
-Names n vs ps ps' (Err e) = ⊥
+abbrev pub Names : ℕ → List Job → List Job → List Job → ℕ → Type 0
+Names n vs ps ps' k = (ps' ≡ name_displacer vs n ps) × (k ≡ count (among vs) ps')
 
 -- the jobs vs gave way to j, and k of them are displaced
-pub record WayMade (ρ : Parts) (t : ℕ) (j : Job) (vs rs ps rs' ps' : List Job) (k : ℕ) : Type 0 where
-  pub ready : (make_way ρ (state t rs ps []) j vs).ready ≡ rs'
-  pub parked : (make_way ρ (state t rs ps []) j vs).parked ≡ ps'
-  pub displaced : k ≡ count (among vs) ps'
+pub record WayMade (ρ : Parts) (j : Job) (vs : List Job) (s s' : State) (k : ℕ) : Type 0 where
+  pub state : make_way ρ s j vs ≡ s'
+  pub displaced : k ≡ count (among vs) s'.parked
 
 -- how many jobs stand in the two lists once the jobs vs have given way to one more
 abbrev pub crowd : List Job → List Job → List Job → ℕ
 crowd vs rs ps = 1 + (length (without vs rs) + (length vs + length ps))
 
-abbrev pub MakesWay : Parts → ℕ → Job → List Job → List Job → List Job → List Job → List Job → Result ℕ Refusal → Type 0
-MakesWay ρ t j vs rs ps rs' ps' (Ok k) = WayMade ρ t j vs rs ps rs' ps' k
-MakesWay ρ t j vs rs ps rs' ps' (Err e) = 64 < crowd vs rs ps
+abbrev pub MakesWay : Parts → Job → List Job → State → State → Result ℕ Refusal → Type 0
+MakesWay ρ j vs s s' (Ok k) = WayMade ρ j vs s s' k
+MakesWay ρ j vs s s' (Err e) = 64 < crowd vs s.ready s.parked
 
 -- room is made for j, or nothing helps
-abbrev pub Gives : Parts → ℕ → Job → List Job → List Job → List Job → List Job → Result (Option ℕ) Refusal → Type 0
-Gives ρ t j rs ps rs' ps' (Ok (Some k)) =
-    (v : Job) × (vs : List Job) × (victims ρ (state t rs ps []) j ≡ v ∷ vs) × WayMade ρ t j (v ∷ vs) rs ps rs' ps' k
-Gives ρ t j rs ps rs' ps' (Ok None) = (victims ρ (state t rs ps []) j ≡ []) × (rs' ≡ rs) × (ps' ≡ ps)
-Gives ρ t j rs ps rs' ps' (Err e) = length rs < 64 → 64 < crowd (victims ρ (state t rs ps []) j) rs ps
+abbrev pub Gives : Parts → Job → State → State → Result (Option ℕ) Refusal → Type 0
+Gives ρ j s s' (Ok (Some k)) = (v : Job) × (vs : List Job) × (victims ρ s j ≡ v ∷ vs) × WayMade ρ j (v ∷ vs) s s' k
+Gives ρ j s s' (Ok None) = (victims ρ s j ≡ []) × (s' ≡ s)
+Gives ρ j s s' (Err e) = length s.ready < 64 → 64 < crowd (victims ρ s j) s.ready s.parked
 
 -- ARRIVING
 
-abbrev pub told_by : Verdict → Admission → Answer
-told_by Ready a = ready a.exceeding a.cause a.displaced
-told_by Parked a = parked a.exceeding a.cause a.displaced
+abbrev pub told_by : Verdict → ℕ → ℕ → Answer
+told_by (Ready n) e w = ready e w n
+told_by Parked e w = parked e w 0
 
 -- what an admission tells: where the job stands, E, the cause and the number of jobs displaced
 abbrev pub told : Admission → Answer
-told a = told_by a.verdict a
+told a = told_by a.verdict (exceeding_of a.overrun) (cause_of a.overrun)
 
 -- exactly as the rules say, wherever fewer than 64 jobs are known and no ready number stands twice
-abbrev pub Admits : Parts → ℕ → Job → List Job → List Job → List Job → List Job → Result Admission Refusal → Type 0
-Admits ρ t j rs ps rs' ps' (Ok a) = (es : List Ending) → admit ρ (state t rs ps es) j ≡ answers (told a) (state t rs' ps' es)
-Admits ρ t j rs ps rs' ps' (Err e) = length rs + length ps < 64 → ((n : ℕ) → count (has n) rs ≤ 1) → ⊥
+abbrev pub Admits : Parts → Job → State → State → Result Admission Refusal → Type 0
+Admits ρ j s s' (Ok a) = admit ρ s j ≡ answers (told a) s'
+Admits ρ j s s' (Err e) = length s.ready + length s.parked < 64 → ((n : ℕ) → count (has n) s.ready ≤ 1) → ⊥
 
 -- ENDING
 
@@ -117,34 +148,53 @@ abbrev pub Ends : ℕ → EndKind → ℕ → List Job → List Ending → List 
 Ends place k t js es js' es' (Ok j) = Ended place k t js es js' es' j
 Ends place k t js es js' es' (Err e) = place < length js → 64 ≤ length es
 
-pub record SweptAfter (ρ : Parts) (place : ℕ) (k : EndKind) (t : ℕ) (rs ps : List Job) (es : List Ending) (rs' ps' : List Job) (es' : List Ending) (j : Job) : Type 0 where
-  pub within : place < length rs
-  pub job : j ≡ slice_index_or rs place blank
-  pub left : sweep ρ t (remove rs place) ps ≡ lists rs' ps'
-  pub lines : es' ≡ insert ended_order (ends t k j) es
+-- the line of j among the endings
+abbrev pub with_line : EndKind → Job → State → State
+with_line k j s = with_ended (insert ended_order (ends s.clock k j) s.ended) s
 
-abbrev pub EndsAndSweeps : Parts → ℕ → EndKind → ℕ → List Job → List Job → List Ending → List Job → List Job → List Ending → Result Job Refusal → Type 0
-EndsAndSweeps ρ place k t rs ps es rs' ps' es' (Ok j) = SweptAfter ρ place k t rs ps es rs' ps' es' j
-EndsAndSweeps ρ place k t rs ps es rs' ps' es' (Err e) = place < length rs → 64 < length rs + (length ps + length es)
+-- the ready job j, which stood at a place, has ended, and the sweep has run
+pub record ReadyEnded (ρ : Parts) (place : ℕ) (k : EndKind) (s s' : State) (j : Job) : Type 0 where
+  pub within : place < length s.ready
+  pub job : j ≡ slice_index_or s.ready place blank
+  pub state : swept ρ (with_ready (remove s.ready place) (with_line k j s)) ≡ s'
 
-abbrev pub Expires : ℕ → List Job → List Ending → List Job → List Ending → Result (Unit {0}) Refusal → Type 0
-Expires t ps es ps' es' (Ok _) = (rs : List Job) → expire (state t rs ps es) ≡ state t rs ps' es'
-Expires t ps es ps' es' (Err e) = 64 < length ps + length es
+abbrev pub EndsReady : Parts → ℕ → EndKind → State → State → Result Job Refusal → Type 0
+EndsReady ρ place k s s' (Ok j) = ReadyEnded ρ place k s s' j
+EndsReady ρ place k s s' (Err e) = place < length s.ready → 64 < population s
+
+-- the parked job j, which stood at a place, has ended
+pub record ParkedEnded (place : ℕ) (k : EndKind) (s s' : State) (j : Job) : Type 0 where
+  pub within : place < length s.parked
+  pub job : j ≡ slice_index_or s.parked place blank
+  pub state : with_parked (remove s.parked place) (with_line k j s) ≡ s'
+
+abbrev pub EndsParked : ℕ → EndKind → State → State → Result Job Refusal → Type 0
+EndsParked place k s s' (Ok j) = ParkedEnded place k s s' j
+EndsParked place k s s' (Err e) = place < length s.parked → 64 ≤ length s.ended
+
+-- the parked job j ends as missed if it can no longer make its limit, and else stays parked
+abbrev pub ExpiresOne : ℕ → Job → List Ending → List Ending → Result Bool Refusal → Type 0
+ExpiresOne t j es es' (Ok stays) = (stays ≡ not (late t j)) × (es' ≡ cond stays es (insert ended_order (ends t Missed j) es))
+ExpiresOne t j es es' (Err e) = 64 ≤ length es
+
+abbrev pub Expires : State → State → Result (Unit {0}) Refusal → Type 0
+Expires s s' (Ok _) = expire s ≡ s'
+Expires s s' (Err e) = 64 < length s.parked + length s.ended
 
 -- WORKING
 
--- the ready jobs are worked for the tick that ends at t
-pub record FirstWorked (t : ℕ) (rs : List Job) (es : List Ending) (rs' : List Job) (es' : List Ending) (b : Bool) : Type 0 where
-  pub done : b ≡ last_tick rs
-  pub lists : (u : ℕ) (ps : List Job) → worked t (state u rs ps es) rs ≡ state t rs' ps es'
+-- the first ready job, if any, is worked for the tick that ends now
+pub record FirstWorked (s s' : State) (b : Bool) : Type 0 where
+  pub done : b ≡ last_tick s.ready
+  pub state : worked s.clock s s.ready ≡ s'
 
 abbrev pub Lasting : Job → Type 0
 Lasting j = (1 ≤ j.remaining) × (j.remaining ≤ j.computation)
 
-abbrev pub WorksFirst : ℕ → List Job → List Ending → List Job → List Ending → Result Bool Refusal → Type 0
-WorksFirst t rs es rs' es' (Ok done) = Every Lasting rs → FirstWorked t rs es rs' es' done
-WorksFirst t rs es rs' es' (Err e) = Every Lasting rs → 64 < length rs + length es
+abbrev pub WorksFirst : State → State → Result Bool Refusal → Type 0
+WorksFirst s s' (Ok done) = (s'.clock ≡ s.clock) × (Every Lasting s.ready → FirstWorked s s' done)
+WorksFirst s s' (Err e) = Every Lasting s.ready → 64 < length s.ready + length s.ended
 
-abbrev pub Ticks : Parts → ℕ → List Job → List Job → List Ending → List Job → List Job → List Ending → Result ℕ Refusal → Type 0
-Ticks ρ u rs ps es rs' ps' es' (Ok t) = (t ≡ u + 1) × (t ≤ 1000000000) × (Fields (state u rs ps es) → tick ρ (state u rs ps es) ≡ state t rs' ps' es')
-Ticks ρ u rs ps es rs' ps' es' (Err e) = Fields (state u rs ps es) → 1000000000 ≤ u
+abbrev pub Ticks : Parts → State → State → Result ℕ Refusal → Type 0
+Ticks ρ s s' (Ok t) = (t ≡ s.clock + 1) × (t ≤ 1000000000) × (t ≡ s'.clock) × (Fields s → tick ρ s ≡ s')
+Ticks ρ s s' (Err e) = Fields s → (1000000000 ≤ s.clock) × (s' ≡ s)

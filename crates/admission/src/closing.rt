@@ -1,35 +1,28 @@
 //! How jobs end: each leaves its list, and its line goes into the ended list.
 ghost use Rattle.std.specs.Prelude.{◌≡◌};
 ghost use Rattle.rules.specs.Calls.{ends, late};
-ghost use Rattle.stores.specs.Tables.{listed, lines};
+ghost use Rattle.stores.specs.Tables.{listed};
 ghost use Rattle.admission.specs.Disciplines.{parts};
-ghost use Rattle.admission.specs.Steps.{Finds, Ends, EndsAndSweeps, Expires};
+ghost use Rattle.admission.specs.Rosters.{roster_state};
+ghost use Rattle.admission.specs.Steps.{Finds, Ends, EndsReady, EndsParked, ExpiresOne, Expires, KeepsClock, KeepsReady};
 
 use crate::discipline::Discipline;
-use crate::sweeping::sweep;
+use crate::retaining::try_retain;
+use crate::roster::Roster;
 use jobs::ending::{EndKind, Ending};
 use jobs::job::{Job, Mark};
 use jobs::refusal::Refusal;
 use rankings::lists::EarlierTick;
 use rankings::policies::Policy;
 use rankings::ranking::Ranking;
-use stores::endings::EndingTable;
 use stores::ready::ReadyStore;
-use stores::table::JobTable;
+use stores::table::EndingTable;
 
 /// The place of the first job of this number in the list.
 pub fn find<S: ReadyStore>(list: &S, number: u16) -> Option<usize>
     ensures { Finds number (S.ReadyStore.jobs list.now) result }
 {
-    for place in 0..list.len() {
-        let Ok(job) = list.read(place) else {
-            return None;
-        };
-        if job.mark.number == number {
-            return Some(place);
-        }
-    }
-    None
+    list.iter().position(|job| job.mark.number == number)
 }
 
 /// The line of a job that ends at `tick`.
@@ -52,27 +45,10 @@ pub fn end<S: ReadyStore>(
     kind: EndKind,
     tick: u32,
 ) -> Result<Job, Refusal>
-    ensures { Ends place kind tick (S.ReadyStore.jobs list.old) (lines ended.old) (S.ReadyStore.jobs list.new) (lines ended.new) result }
+    ensures { Ends place kind tick (S.ReadyStore.jobs list.old) (listed ended.old) (S.ReadyStore.jobs list.new) (listed ended.new) result }
 {
     let job = list.take(place)?;
-    ended.insert(&EarlierTick, line(&job, kind, tick))?;
-    Ok(job)
-}
-
-/// Ends the ready job at `place` and sweeps; answers the job.
-pub fn end_ready<S: ReadyStore, O: Ranking<Item = Mark>, P: Policy>(
-    discipline: &Discipline<O, P>,
-    ready: &mut S,
-    parked: &mut JobTable,
-    ended: &mut EndingTable,
-    place: usize,
-    kind: EndKind,
-    tick: u32,
-) -> Result<Job, Refusal>
-    ensures { EndsAndSweeps (parts O.Ranking.may P.Ranking.may P.Policy.spared discipline.now) place kind tick (S.ReadyStore.jobs ready.old) (listed parked.old) (lines ended.old) (S.ReadyStore.jobs ready.new) (listed parked.new) (lines ended.new) result }
-{
-    let job = end(ready, place, ended, kind, tick)?;
-    sweep(discipline, ready, parked, tick)?;
+    ended.insert_by(&EarlierTick, line(&job, kind, tick))?;
     Ok(job)
 }
 
@@ -83,18 +59,48 @@ fn is_late(job: &Job, tick: u32) -> bool
     u64::from(tick) + u64::from(job.remaining) > job.mark.limit()
 }
 
-/// Ends as missed each parked job that can no longer make its limit.
-pub fn expire(parked: &mut JobTable, ended: &mut EndingTable, tick: u32) -> Result<(), Refusal>
-    ensures { Expires tick (listed parked.old) (lines ended.old) (listed parked.new) (lines ended.new) result }
-{
-    let mut place = 0;
-    while place < parked.len() {
-        let job = parked.read(place)?;
-        if !is_late(&job, tick) {
-            place += 1;
-            continue;
-        }
-        end(parked, place, ended, EndKind::Missed, tick)?;
+impl<S: ReadyStore> Roster<S> {
+    /// Ends the ready job at `place` and sweeps; answers the job.
+    pub fn end_ready<O: Ranking<Item = Mark>, P: Policy>(
+        &mut self,
+        discipline: &Discipline<O, P>,
+        place: usize,
+        kind: EndKind,
+    ) -> Result<Job, Refusal>
+        ensures step { EndsReady (parts O.Ranking P.Policy discipline.now) place kind (roster_state S.ReadyStore.jobs self.old) (roster_state S.ReadyStore.jobs self.new) result }
+        ensures apart { KeepsClock (roster_state S.ReadyStore.jobs self.old) (roster_state S.ReadyStore.jobs self.new) }
+    {
+        let job = end(&mut self.ready, place, &mut self.ended, kind, self.clock)?;
+        self.sweep(discipline)?;
+        Ok(job)
     }
-    Ok(())
+
+    /// Ends the parked job at `place`, and answers it.
+    pub fn end_parked(&mut self, place: usize, kind: EndKind) -> Result<Job, Refusal>
+        ensures step { EndsParked place kind (roster_state S.ReadyStore.jobs self.old) (roster_state S.ReadyStore.jobs self.new) result }
+        ensures apart { KeepsReady (roster_state S.ReadyStore.jobs self.old) (roster_state S.ReadyStore.jobs self.new) }
+    {
+        end(&mut self.parked, place, &mut self.ended, kind, self.clock)
+    }
+
+    /// Ends as missed each parked job that can no longer make its limit.
+    pub fn expire(&mut self) -> Result<(), Refusal>
+        ensures step { Expires (roster_state S.ReadyStore.jobs self.old) (roster_state S.ReadyStore.jobs self.new) result }
+        ensures apart { KeepsReady (roster_state S.ReadyStore.jobs self.old) (roster_state S.ReadyStore.jobs self.new) }
+    {
+        let tick = self.clock;
+        try_retain(
+            &mut self.parked,
+            &mut self.ended,
+            |ended: &mut EndingTable, job: Job| -> Result<bool, Refusal>
+                ensures { ExpiresOne tick job (listed ended.old) (listed ended.new) result }
+            {
+                if !is_late(&job, tick) {
+                    return Ok(true);
+                }
+                ended.insert_by(&EarlierTick, line(&job, EndKind::Missed, tick))?;
+                Ok(false)
+            },
+        )
+    }
 }

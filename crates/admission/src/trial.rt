@@ -4,7 +4,8 @@ ghost use Rattle.jobs.specs.Records.{number};
 ghost use Rattle.rankings.specs.Ranked.{before};
 ghost use Rattle.rankings.specs.Rankings.{by_mark};
 ghost use Rattle.rules.specs.Giving.{without};
-ghost use Rattle.admission.specs.Trials.{turn, Puts, Passes, Tries};
+ghost use Rattle.timing.specs.Overruns.{exceeding_of};
+ghost use Rattle.admission.specs.Trials.{turn, Puts, Passes, Finishes, Tries};
 
 use jobs::job::{Job, Mark};
 use jobs::refusal::Refusal;
@@ -12,6 +13,7 @@ use rankings::orders::ByMark;
 use rankings::ranking::Ranking;
 use stores::lookup::has_number;
 use stores::ready::ReadyStore;
+use timing::overrun::Overrun;
 use timing::timeline::Timeline;
 
 /// What came of adding a job to a list.
@@ -19,18 +21,16 @@ use timing::timeline::Timeline;
 pub struct Trial {
     /// The place that the job has in the list.
     pub place: usize,
-    /// The greatest time by which a job of the list with it passes its limit.
-    pub exceeding: u64,
-    /// The first job that passes its limit by so much, 0 if none does.
-    pub cause: u16,
+    /// How far the list with it passes its limits, if a job does.
+    pub overrun: Option<Overrun>,
 }
 
 impl Trial {
     /// Whether every job still finishes by its limit.
     pub fn fits(&self) -> bool
-        ensures { result ≡ (self.now.exceeding == 0) }
+        ensures { result ≡ (exceeding_of self.now.overrun == 0) }
     {
-        self.exceeding == 0
+        self.overrun.is_none()
     }
 }
 
@@ -38,21 +38,19 @@ impl Trial {
 #[derive(Drop)]
 struct Walk {
     timeline: Timeline,
-    /// Whether the turn of the job has come, and the place that it has then.
-    placed: bool,
-    place: usize,
+    /// The place of the job, once it has been put in.
+    place: Option<usize>,
 }
 
 impl Walk {
-    /// Puts `job` here; after 64 jobs it is refused.
-    fn put(&mut self, job: &Job) -> Result<(), Refusal>
+    /// Puts `job` here, and answers its place; after 64 jobs it is refused.
+    fn put(&mut self, job: &Job) -> Result<usize, Refusal>
         ensures { Puts job.now (turn self.old) (turn self.new) result }
     {
         let place = self.timeline.len();
         self.timeline.add(job)?;
-        self.placed = true;
-        self.place = place;
-        Ok(())
+        self.place = Some(place);
+        Ok(place)
     }
 
     /// Goes on to `other`, and before that to `job` if its turn has come.
@@ -64,13 +62,25 @@ impl Walk {
     ) -> Result<(), Refusal>
         ensures { Passes (before (by_mark (O.Ranking.may order.now.0)) number) job.now (turn self.old) other.now (turn self.new) result }
     {
-        if !self.placed {
-            if order.precedes(job, other) {
-                self.put(job)?;
-            }
+        if self.place.is_none() && order.precedes(job, other) {
+            self.put(job)?;
         }
         self.timeline.add(other)?;
         Ok(())
+    }
+
+    /// What came of it for `job`, which is put last if its turn did not come.
+    fn finish(mut self, job: &Job) -> Result<Trial, Refusal>
+        ensures { Finishes job.now (turn self) result }
+    {
+        let place = match self.place {
+            Some(place) => place,
+            None => self.put(job)?,
+        };
+        Ok(Trial {
+            place,
+            overrun: self.timeline.overrun(),
+        })
     }
 }
 
@@ -87,24 +97,15 @@ pub fn try_out<S: ReadyStore, O: Ranking<Item = Mark>>(
 {
     let mut walk = Walk {
         timeline: Timeline::new(tick),
-        placed: false,
-        place: 0,
+        place: None,
     };
-    for at in 0..ready.len() {
-        let other = ready.read(at)?;
+    for other in ready.iter() {
         if has_number(absent, other.mark.number) {
             continue;
         }
         walk.pass(order, job, &other)?;
     }
-    if !walk.placed {
-        walk.put(job)?;
-    }
-    Ok(Trial {
-        place: walk.place,
-        exceeding: walk.timeline.exceeding(),
-        cause: walk.timeline.cause(),
-    })
+    walk.finish(job)
 }
 
 /// Adds `job` to the whole ready list, for a trial.

@@ -26,8 +26,8 @@ fn arrival(class: u32, number: u32, computation: u32, deadline_in: u32, value: u
 
 /// Jobs of ten ticks that are all to be done by tick 640.
 fn fill(s: &mut Plain, count: u32) -> Result<(), Refusal> {
-    for number in 0..count {
-        s.arrive(&arrival(0, number + 1, 10, 640, 1))?;
+    for number in 1..=count {
+        s.arrive(&arrival(0, number, 10, 640, 1))?;
     }
     Ok(())
 }
@@ -35,51 +35,80 @@ fn fill(s: &mut Plain, count: u32) -> Result<(), Refusal> {
 /// One job that takes all the time there is, and jobs that wait for it in vain.
 fn crowd(s: &mut Plain, parked: u32) -> Result<(), Refusal> {
     s.arrive(&arrival(0, 100, 1_000_000, 1_000_000, 1))?;
-    for number in 0..parked {
-        s.arrive(&arrival(0, number + 1, 1_000, 50_000, 1))?;
+    for number in 1..=parked {
+        s.arrive(&arrival(0, number, 1_000, 50_000, 1))?;
     }
     Ok(())
 }
 
-/// Sets the case up and, if `last`, makes its last call.
-fn measure(s: &mut Plain, case: u8, last: bool) -> Result<(), Refusal> {
-    match case {
-        b'a' | b'b' | b'c' => fill(s, 63)?,
-        b'w' => crowd(s, 0)?,
-        b'x' => crowd(s, 31)?,
-        _ => crowd(s, 63)?,
+/// The call that is measured, and the jobs that it finds.
+#[derive(Clone, Copy)]
+enum Case {
+    /// An arrival that fits behind 63 ready jobs.
+    Fits,
+    /// A HARD arrival for which one of 63 ready jobs gives way.
+    Displaces,
+    /// A CRITICAL arrival for which many of 63 ready jobs give way.
+    Overrides,
+    /// The longest work with so many jobs parked.
+    Works { parked: u32 },
+}
+
+/// The case of a letter; any other letter is the costliest work.
+impl From<u8> for Case {
+    fn from(letter: u8) -> Case {
+        match letter {
+            b'a' => Case::Fits,
+            b'b' => Case::Displaces,
+            b'c' => Case::Overrides,
+            b'w' => Case::Works { parked: 0 },
+            b'x' => Case::Works { parked: 31 },
+            _ => Case::Works { parked: 63 },
+        }
     }
-    if !last {
-        return Ok(());
+}
+
+impl Case {
+    /// Brings the jobs that the call is to find.
+    fn set_up(self, s: &mut Plain) -> Result<(), Refusal> {
+        match self {
+            Case::Fits | Case::Displaces | Case::Overrides => fill(s, 63),
+            Case::Works { parked } => crowd(s, parked),
+        }
     }
-    match case {
-        b'a' => {
-            s.arrive(&arrival(0, 101, 10, 640, 9))?;
-        }
-        b'b' => {
-            s.arrive(&arrival(0, 101, 20, 640, 9))?;
-        }
-        b'c' => {
-            s.arrive(&arrival(1, 101, 400, 640, 9))?;
-        }
-        _ => {
-            s.work(10_000)?;
-        }
+
+    /// Makes the call that is measured.
+    fn make_call(self, s: &mut Plain) -> Result<(), Refusal> {
+        let arriving = match self {
+            Case::Fits => arrival(0, 101, 10, 640, 9),
+            Case::Displaces => arrival(0, 101, 20, 640, 9),
+            Case::Overrides => arrival(1, 101, 400, 640, 9),
+            Case::Works { .. } => {
+                s.work(10_000)?;
+                return Ok(());
+            }
+        };
+        s.arrive(&arriving)?;
+        Ok(())
+    }
+}
+
+/// Sets the case up and, if `last`, makes its call.
+fn measure(s: &mut Plain, case: Case, last: bool) -> Result<(), Refusal> {
+    case.set_up(s)?;
+    if last {
+        case.make_call(s)?;
     }
     Ok(())
 }
 
-fn run(rt: &HostRuntime) -> anyhow::Result<()> {
+fn main(rt: HostRuntime) -> anyhow::Result<()> {
     let mut input = Vec::new(rt.alloc());
     rt.stdin().take(2).read_to_end(&mut input)?;
-    let case = match input.as_slice().get(0) {
-        Some(byte) => *byte,
-        None => b'a',
-    };
-    let last = match input.as_slice().get(1) {
-        Some(byte) => *byte == b'1',
-        None => false,
-    };
+    let case = input
+        .first()
+        .map_or(Case::Fits, |&letter| Case::from(letter));
+    let last = input.get(1) == Some(&b'1');
     let mut s = Scheduler::new(Row::new(), ByDeadline, ByValue);
     let done = measure(&mut s, case, last).is_ok();
     let clock = s.clock();
@@ -88,8 +117,4 @@ fn run(rt: &HostRuntime) -> anyhow::Result<()> {
     let size = std::mem::size_of::<Plain>();
     println!(rt; "done {done} clock {clock} ready {ready} parked {parked} size {size}")?;
     Ok(())
-}
-
-fn main(rt: HostRuntime) -> anyhow::Result<()> {
-    run(&rt)
 }

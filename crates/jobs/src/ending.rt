@@ -1,31 +1,41 @@
 //! How a job ended.
-ghost use Rattle.std.specs.Prelude.{◌≡◌};
-ghost use Rattle.jobs.specs.Records.{kind_number};
+ghost use Rattle.std.specs.Prelude.{◌≡◌, Some};
+ghost use Rattle.jobs.specs.Records.{kind_number, kind_name};
 
 use crate::numbered::Numbered;
+use std::fmt;
 
 /// The way in which a job ended.
-#[derive(Clone, Copy, PartialEq, Eq, Debug)]
+#[derive(Clone, Copy, Default, PartialEq, Eq, Debug)]
 pub enum EndKind {
-    InTime,
-    Missed,
-    Withdrawn,
+    #[default]
+    InTime = 1,
+    Missed = 2,
+    Withdrawn = 3,
 }
 
 impl EndKind {
     pub fn number(self) -> u8
         ensures { result ≡ kind_number self }
     {
-        match self {
-            EndKind::InTime => 1,
-            EndKind::Missed => 2,
-            EndKind::Withdrawn => 3,
-        }
+        self as u8
+    }
+}
+
+impl fmt::Display for EndKind {
+    ghost output = { λ k. Some (kind_name k) };
+
+    fn fmt<W: fmt::Write>(&self, f: &mut fmt::Formatter<W>) -> fmt::Result {
+        f.write_str(match self {
+            EndKind::InTime => "intime",
+            EndKind::Missed => "missed",
+            EndKind::Withdrawn => "withdrawn",
+        })
     }
 }
 
 /// The line that is kept of a job until it is collected.
-#[derive(Clone, Copy, PartialEq, Eq, Debug)]
+#[derive(Clone, Copy, Default, PartialEq, Eq, Debug)]
 pub struct Ending {
     pub number: u16,
     pub kind: EndKind,

@@ -1,30 +1,44 @@
 //! A job and its mark.
 ghost use Rattle.std.specs.Prelude.{◌≡◌, pos, ◌+ℤ◌, neg_ℤ};
 ghost use Rattle.std.specs.Int.{int_max};
-ghost use Rattle.jobs.specs.Records.{class_number, mark_limit, excess, residual};
+ghost use Rattle.jobs.specs.Records.{class_number, Classed, arrived, mark_limit, excess, residual};
 
 use crate::numbered::Numbered;
+use crate::refusal::Refusal;
 
 /// How a job stands to others: a HARD job may be displaced, a CRITICAL one never.
-#[derive(Clone, Copy, PartialEq, Eq, Debug)]
+#[derive(Clone, Copy, Default, PartialEq, Eq, Debug)]
 pub enum Class {
-    Hard,
-    Critical,
+    #[default]
+    Hard = 0,
+    Critical = 1,
 }
 
 impl Class {
     pub fn number(self) -> u8
         ensures { result ≡ class_number self }
     {
-        match self {
-            Class::Hard => 0,
-            Class::Critical => 1,
+        self as u8
+    }
+}
+
+/// The class of this number; any other number is refused.
+impl TryFrom<u32> for Class {
+    type Error = Refusal;
+
+    ghost try_from_gives = { Classed };
+
+    fn try_from(number: u32) -> Result<Class, Refusal> {
+        match number {
+            0 => Ok(Class::Hard),
+            1 => Ok(Class::Critical),
+            _ => Err(Refusal::Class),
         }
     }
 }
 
 /// What never changes of a job.
-#[derive(Clone, Copy, PartialEq, Eq, Debug)]
+#[derive(Clone, Copy, Default, PartialEq, Eq, Debug)]
 pub struct Mark {
     pub number: u16,
     pub class: Class,
@@ -48,7 +62,7 @@ impl Mark {
 }
 
 /// A job that has been accepted.
-#[derive(Clone, Copy, PartialEq, Eq, Debug)]
+#[derive(Clone, Copy, Default, PartialEq, Eq, Debug)]
 pub struct Job {
     pub mark: Mark,
     /// The ticks that it takes in all.
@@ -60,6 +74,18 @@ pub struct Job {
 }
 
 impl Job {
+    /// A job that arrives: nothing of it is done, and nobody has displaced it.
+    pub fn new(mark: Mark, computation: u32) -> Job
+        ensures { result ≡ arrived mark computation }
+    {
+        Job {
+            mark,
+            computation,
+            remaining: computation,
+            by: 0,
+        }
+    }
+
     /// The time by which the job passes its limit if it finishes at `finish`, 0 if it does not.
     pub fn excess(&self, finish: u64) -> u64
         ensures value { result ≡ excess finish self.now }

@@ -1,3 +1,2 @@
-pub mod Arrivals
-pub mod Printing
+pub mod Serving
 pub mod Turns

@@ -4,15 +4,13 @@
 --   profile_text s       what the profile of the state s is written as
 --   line_text n s bytes  all that is printed for the line of number n, to which the state has come to be s
 use Rattle.std.specs.Prelude.{ℕ, List, [], ◌∷◌, ◌++◌, Some, None, Ok, Err, codes, decimal, Option, Result}
-use Rattle.jobs.specs.declared.ending.EndKind.{EndKind}
-use Rattle.jobs.specs.declared.ending.EndKind.TheVariants.{InTime, Missed, Withdrawn}
-use Rattle.jobs.specs.declared.ending.Ending.{Ending}
 use Rattle.timing.specs.Timing.{entries}
 use Rattle.timing.specs.Written.{entry_text}
 use Rattle.timing.specs.declared.entry.Entry.{Entry}
 use Rattle.rules.specs.Calls.{serve}
 use Rattle.rules.specs.States.{State, Answer, ready, parked, now_at, saved, gone, line, refused}
 use Rattle.rules.specs.Worked.{plain}
+use Rattle.scheduler.specs.Written.{admitted_text, ended_text}
 use Rattle.words.specs.Faults.{fault_in, fault_text}
 use Rattle.words.specs.Readers.{fault_at}
 use Rattle.words.specs.declared.fault.Cause.TheVariants.{Rule}
@@ -23,20 +21,6 @@ abbrev pub newline : List ℕ
 newline = 10 ∷ []
 
 -- ANSWERS
-
-abbrev pub kind_name : EndKind → List ℕ
-kind_name InTime = codes "intime"
-kind_name Missed = codes "missed"
-kind_name Withdrawn = codes "withdrawn"
-
--- VERDICT E CAUSE COUNT
-abbrev pub admitted_text : List ℕ → ℕ → ℕ → ℕ → List ℕ
-admitted_text verdict e w n = verdict ++ (codes " " ++ (decimal e ++ (codes " " ++ (decimal w ++ (codes " " ++ decimal n)))))
-
--- ended NUMBER KIND TICK BY
-abbrev pub ended_text : Ending → List ℕ
-ended_text e =
-    codes "ended " ++ (decimal e.number ++ (codes " " ++ (kind_name e.kind ++ (codes " " ++ (decimal e.tick ++ (codes " " ++ decimal e.by))))))
 
 abbrev pub answer_in : Asking → Answer → Result (List ℕ) WordFault
 answer_in q (ready e w n) = Ok (admitted_text (codes "ready") e w n)

@@ -8,8 +8,7 @@ use Rattle.rules.specs.Runs.{after}
 use Rattle.rules.specs.States.{State, start, Call}
 use Rattle.rules.specs.Worked.{plain}
 use Rattle.words.specs.Bytes.{lines}
-use Rattle.words.specs.Faults.{fault_text}
-use Rattle.words.specs.declared.fault.Cause.TheVariants.{Length}
+use Rattle.words.specs.Faults.{too_long, fault_text}
 use Rattle.lines.specs.Answers.{newline, line_text}
 use Rattle.lines.specs.Requests.{line_calls}
 
@@ -23,17 +22,17 @@ printed_from n s [] = []
 printed_from n s (l ∷ ls) = line_text n s l ++ printed_from (n + 1) (after plain s (line_calls l)) ls
 
 -- an input of more than 65,536 bytes is not read
-abbrev pub too_long : List ℕ → Bool
-too_long bytes = nat_lt 65536 (length bytes)
+abbrev pub unread : List ℕ → Bool
+unread bytes = nat_lt 65536 (length bytes)
 
 abbrev pub printed : List ℕ → List ℕ
 printed bytes =
-    cond (too_long bytes)
-    (fault_text (record { cause = Length; line = 0; place = 0 }) ++ newline)
+    cond (unread bytes)
+    (fault_text too_long ++ newline)
     (printed_from 1 start (lines bytes))
 
 abbrev pub calls_of : List ℕ → List Call
-calls_of bytes = cond (too_long bytes) [] (lines_calls (lines bytes))
+calls_of bytes = cond (unread bytes) [] (lines_calls (lines bytes))
 
 -- wherever the lines are cut, the line behind the cut is served in the state to which all calls before it lead a new scheduler
 abbrev pub InTurn : List (List ℕ) → Type 0

@@ -13,14 +13,13 @@ use Rattle.rules.specs.Calls.{between}
 use Rattle.rules.specs.States.{Arrival, Call, arrive, work, finish, withdraw, collect}
 use Rattle.words.specs.Bytes.{Piece, words}
 use Rattle.words.specs.Faults.{then}
-use Rattle.words.specs.Readers.{fault_at, first_word, first_number, optional_number, none_left}
-use Rattle.words.specs.declared.fault.Cause.TheVariants.{Letter as LetterCause}
+use Rattle.words.specs.Readers.{first_word, first_number, optional_number, none_left, number_alone}
 use Rattle.words.specs.declared.fault.WordFault.{WordFault}
 use Rattle.words.specs.declared.words.Number.{Number}
 use Rattle.lines.specs.declared.request.Worth.{Worth}
 use Rattle.lines.specs.declared.token.Letter.{Letter}
 use Rattle.lines.specs.declared.token.Letter.TheVariants.{Arrive, Work, Finish, Withdraw, Collect, Profile}
-use Rattle.lines.specs.Tokens.{letter_in, class_in}
+use Rattle.lines.specs.Tokens.{letter_in, letter_at, class_in}
 
 -- THE WORDS OF A LINE
 
@@ -45,19 +44,10 @@ pub data Request : Type 0 where
 
 -- READING: words from left to right, each fault at its word; `past` is the place one past the line
 
--- the letter that the word at the place p is
-abbrev pub letter_at : ℕ → Option Letter → Result (Option Letter) WordFault
-letter_at p None = Err (fault_at p LetterCause)
-letter_at p (Some l) = Ok (Some l)
-
 -- the letter of a line, if it has words
 abbrev pub first_letter : List Piece → Result (Option Letter) WordFault
 first_letter [] = Ok None
-first_letter (w ∷ ws) = letter_at w.place (letter_in w.text)
-
--- NUMBER, and no word more
-abbrev pub number_alone : ℕ → List Piece → Result Number WordFault
-number_alone past ws = then (first_number past ws) (λ n. then (none_left (drop 1 ws)) (λ _. Ok n))
+first_letter (w ∷ ws) = then (letter_at w.place (letter_in w.text)) (λ l. Ok (Some l))
 
 -- VALUE [TOLERANCE], and no word more
 abbrev pub worth_in : ℕ → List Piece → Result Worth WordFault

@@ -4,6 +4,5 @@
 mod reading;
 pub mod reply;
 mod request;
-mod said;
-mod serving;
+mod session;
 mod token;

@@ -1,37 +1,21 @@
 //! Reading a line: its letter, then the words that the letter asks for, from left to right.
-ghost use Rattle.std.specs.Prelude.{◌≡◌, drop};
+ghost use Rattle.std.specs.Prelude.{◌≡◌};
 ghost use Rattle.std.specs.Option.{option_map as mapped_some};
 ghost use Rattle.std.specs.Result.{result_map_both};
-ghost use Rattle.words.specs.Readers.{words_left, past_end};
+ghost use Rattle.words.specs.Readers.{words_left, past_end, TakesOne};
 ghost use Rattle.lines.specs.Forms.{arriving, requested};
-ghost use Rattle.lines.specs.Requests.{first_letter, number_alone, worth_in, arrival_in, request_in, line_in};
+ghost use Rattle.lines.specs.Requests.{first_letter, worth_in, arrival_in, request_in, line_in};
 
 use crate::request::{ArrivalWords, CallWords, Request, Worth};
-use crate::token::{Letter, Token};
-use words::{Cause, Number, WordFault, Words};
+use crate::token::Letter;
+use words::{WordFault, Words};
 
 /// The letter of a line, if the line has words.
 fn read_letter(words: &mut Words<'_>) -> Result<Option<Letter>, WordFault>
     ensures value { result ≡ first_letter (words_left words.old) }
-    ensures left { words_left words.new ≡ drop 1 (words_left words.old) }
-    ensures end { past_end words.new ≡ past_end words.old }
+    ensures taken { TakesOne words.old words.new }
 {
-    let Some(word) = words.next() else {
-        return Ok(None);
-    };
-    match Letter::of(&word) {
-        Some(letter) => Ok(Some(letter)),
-        None => Err(Token::Letter(word).fault(Cause::Letter)),
-    }
-}
-
-/// A number, and no word more.
-fn read_number(words: &mut Words<'_>) -> Result<Number, WordFault>
-    ensures { result ≡ number_alone (past_end words.old) (words_left words.old) }
-{
-    let number = words.number()?;
-    words.end()?;
-    Ok(number)
+    words.next().map(Letter::try_from).transpose()
 }
 
 /// What an arrival is worth, how late it may be, if that is said, and no word more.
@@ -68,9 +52,9 @@ fn read_request<'a>(letter: Letter, words: &mut Words<'a>) -> Result<Request<'a>
 {
     let call = match letter {
         Letter::Arrive => CallWords::Arrive(read_arrival(words)?),
-        Letter::Work => CallWords::Work(read_number(words)?),
-        Letter::Finish => CallWords::Finish(read_number(words)?),
-        Letter::Withdraw => CallWords::Withdraw(read_number(words)?),
+        Letter::Work => CallWords::Work(words.only_number()?),
+        Letter::Finish => CallWords::Finish(words.only_number()?),
+        Letter::Withdraw => CallWords::Withdraw(words.only_number()?),
         Letter::Collect => {
             words.end()?;
             CallWords::Collect

@@ -1,29 +1,27 @@
 //! What a line asks for, with the words that it was read from.
 ghost use Rattle.std.specs.Prelude.{◌≡◌};
-ghost use Rattle.scheduler.specs.Calling.{asked};
+ghost use Rattle.scheduler.specs.Calling.{asked, asked_call};
 ghost use Rattle.words.specs.Readers.{fault_at};
 ghost use Rattle.words.specs.declared.fault.Cause.TheVariants.{Rule};
-ghost use Rattle.lines.specs.Requests.{tolerance_of, outside, tolerance_outside, worth_outside, first_outside, arrival_of, call_outside, fault_place};
+ghost use Rattle.lines.specs.Requests.{tolerance_of, outside, tolerance_outside, worth_outside, first_outside, arrival_of, call_of, call_outside, fault_place};
 ghost use Rattle.lines.specs.Tokens.{pointed};
 ghost use Rattle.lines.specs.Forms.{arriving, asking};
 
 use crate::token::{Token, class_number};
-use jobs::ranges::{
-    MAX_COMPUTATION, MAX_DEADLINE_IN, MAX_NUMBER, MAX_TICKS, MAX_TOLERANCE, MAX_VALUE,
-};
+use jobs::ranges::{Bounds, COMPUTATIONS, DEADLINES_IN, NUMBERS, TICKS, TOLERANCES, VALUES};
 use jobs::refusal::Refusal;
-use scheduler::calls::Arrival;
+use scheduler::calls::{Arrival, Call};
 use words::{Cause, Number, Word, WordFault};
 
 /// What an arrival is worth, and how late it may be, which may be left out.
-#[derive(Clone, Copy)]
+#[derive(Clone, Copy, PartialEq, Eq, Debug)]
 pub struct Worth {
     pub value: Number,
     pub tolerance: Option<Number>,
 }
 
 /// The words of an arrival in the order of the line.
-#[derive(Clone, Copy)]
+#[derive(Clone, Copy, Debug)]
 pub struct ArrivalWords<'a> {
     pub number: Number,
     pub class: Word<'a>,
@@ -33,7 +31,7 @@ pub struct ArrivalWords<'a> {
 }
 
 /// The words of a call.
-#[derive(Clone, Copy)]
+#[derive(Clone, Copy, Debug)]
 pub enum CallWords<'a> {
     Arrive(ArrivalWords<'a>),
     Work(Number),
@@ -43,20 +41,21 @@ pub enum CallWords<'a> {
 }
 
 /// What a line asks for.
-#[derive(Clone, Copy)]
+#[derive(Clone, Copy, Debug)]
 pub enum Request<'a> {
     Call(CallWords<'a>),
     Profile,
 }
 
-/// The number, if it lies outside `low` to `high`.
-fn outside(number: Number, low: u32, high: u32) -> Option<Number>
-    ensures { result ≡ outside low high number }
+/// The number, if it lies outside its range.
+fn outside(number: Number, bounds: Bounds) -> Option<Number>
+    ensures { result ≡ outside bounds.least bounds.most number }
 {
-    if number.within(low, high).is_ok() {
-        return None;
+    if bounds.contains(number.value) {
+        None
+    } else {
+        Some(number)
     }
-    Some(number)
 }
 
 impl Worth {
@@ -64,24 +63,21 @@ impl Worth {
     fn tolerance(&self) -> u32
         ensures { result ≡ tolerance_of self.now.tolerance }
     {
-        match self.tolerance {
-            Some(tolerance) => tolerance.value,
-            None => 0,
-        }
+        self.tolerance.map_or(0, |tolerance| tolerance.value)
     }
 
     /// The tolerance, if it is there and outside its range.
     fn tolerance_outside(&self) -> Option<Number>
         ensures { result ≡ tolerance_outside self.now.tolerance }
     {
-        outside(self.tolerance?, 0, MAX_TOLERANCE)
+        outside(self.tolerance?, TOLERANCES)
     }
 
     /// The leftmost number outside its range.
     fn first_outside(&self) -> Option<Number>
         ensures { result ≡ worth_outside self.now }
     {
-        outside(self.value, 0, u32::from(MAX_VALUE)).or(self.tolerance_outside())
+        outside(self.value, VALUES).or(self.tolerance_outside())
     }
 }
 
@@ -104,24 +100,36 @@ impl<'a> ArrivalWords<'a> {
     fn first_outside(&self) -> Option<Number>
         ensures { result ≡ first_outside (arriving self.now) }
     {
-        let number = outside(self.number, 1, u32::from(MAX_NUMBER));
-        let computation = outside(self.computation, 1, MAX_COMPUTATION);
-        let deadline = outside(self.deadline_in, 1, MAX_DEADLINE_IN);
+        let number = outside(self.number, NUMBERS);
+        let computation = outside(self.computation, COMPUTATIONS);
+        let deadline = outside(self.deadline_in, DEADLINES_IN);
         let worth = self.worth.first_outside();
         number.or(computation).or(deadline).or(worth)
     }
 }
 
 impl<'a> CallWords<'a> {
+    /// The call that the words make.
+    pub fn call(&self) -> Call
+        ensures { asked_call result ≡ call_of (asking self.now) }
+    {
+        match self {
+            CallWords::Arrive(words) => Call::Arrive(words.arrival()),
+            CallWords::Work(ticks) => Call::Work(ticks.value),
+            CallWords::Finish(number) => Call::Finish(number.value),
+            CallWords::Withdraw(number) => Call::Withdraw(number.value),
+            CallWords::Collect => Call::Collect,
+        }
+    }
+
     /// The leftmost number outside its range.
     fn first_outside(&self) -> Option<Number>
         ensures { result ≡ call_outside (asking self.now) }
     {
         match self {
             CallWords::Arrive(words) => words.first_outside(),
-            CallWords::Work(ticks) => outside(*ticks, 1, MAX_TICKS),
-            CallWords::Finish(number) => outside(*number, 1, u32::from(MAX_NUMBER)),
-            CallWords::Withdraw(number) => outside(*number, 1, u32::from(MAX_NUMBER)),
+            CallWords::Work(ticks) => outside(*ticks, TICKS),
+            CallWords::Finish(number) | CallWords::Withdraw(number) => outside(*number, NUMBERS),
             CallWords::Collect => None,
         }
     }
@@ -141,10 +149,10 @@ impl<'a> CallWords<'a> {
     pub fn fault(&self, refusal: Refusal) -> WordFault
         ensures { result ≡ fault_at (fault_place (asking self.now) refusal) (Rule refusal) }
     {
-        let cause = Cause::Rule(refusal);
+        let cause = Cause::from(refusal);
         match self.at_fault(refusal) {
             Some(token) => token.fault(cause),
-            None => WordFault { cause, place: 1 },
+            None => cause.at(1),
         }
     }
 }

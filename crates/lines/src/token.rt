@@ -1,12 +1,12 @@
 //! The words of a line by what they stand for.
 ghost use Rattle.std.specs.Prelude.{◌≡◌};
 ghost use Rattle.words.specs.Readers.{piece, fault_at};
-ghost use Rattle.lines.specs.Tokens.{letter_in, class_in, token_place};
+ghost use Rattle.lines.specs.Tokens.{letter_in, letter_at, class_in, token_place};
 
 use words::{Cause, Number, Word, WordFault};
 
 /// What a line asks for, by its first word.
-#[derive(Clone, Copy)]
+#[derive(Clone, Copy, PartialEq, Eq, Debug)]
 pub enum Letter {
     Arrive,
     Work,
@@ -16,48 +16,39 @@ pub enum Letter {
     Profile,
 }
 
-impl Letter {
-    /// The letter that a word is, if it is one of the six.
-    pub fn of(word: &Word<'_>) -> Option<Letter>
-        ensures { result ≡ letter_in (piece word.now).text }
-    {
-        if word.is(b"a") {
-            return Some(Letter::Arrive);
+/// The letter that a word is; a word that is none of the six is refused at its place.
+impl TryFrom<Word<'_>> for Letter {
+    type Error = WordFault;
+
+    ghost try_from_gives = { λ w r. r ≡ letter_at w.place (letter_in (piece w).text) };
+
+    fn try_from(word: Word<'_>) -> Result<Letter, WordFault> {
+        match word.text {
+            b"a" => Ok(Letter::Arrive),
+            b"w" => Ok(Letter::Work),
+            b"f" => Ok(Letter::Finish),
+            b"x" => Ok(Letter::Withdraw),
+            b"g" => Ok(Letter::Collect),
+            b"p" => Ok(Letter::Profile),
+            _ => Err(Token::Letter(word).fault(Cause::Letter)),
         }
-        if word.is(b"w") {
-            return Some(Letter::Work);
-        }
-        if word.is(b"f") {
-            return Some(Letter::Finish);
-        }
-        if word.is(b"x") {
-            return Some(Letter::Withdraw);
-        }
-        if word.is(b"g") {
-            return Some(Letter::Collect);
-        }
-        if word.is(b"p") {
-            return Some(Letter::Profile);
-        }
-        None
     }
 }
 
 /// The class that a word names: `h` is HARD, `c` is CRITICAL, and any other word is passed on as 2, which no class has.
+/// It stays a number, since the scheduler takes each value and refuses it in its turn, after the ranges.
 pub fn class_number(word: &Word<'_>) -> u32
     ensures { result ≡ class_in (piece word.now).text }
 {
-    if word.is(b"h") {
-        return 0;
+    match word.text {
+        b"h" => 0,
+        b"c" => 1,
+        _ => 2,
     }
-    if word.is(b"c") {
-        return 1;
-    }
-    2
 }
 
 /// A word that a fault can be about. Its bytes are a part of the input, and it keeps its place there.
-#[derive(Clone, Copy)]
+#[derive(Clone, Copy, Debug)]
 pub enum Token<'a> {
     /// The first word of a line.
     Letter(Word<'a>),
@@ -73,9 +64,8 @@ impl<'a> Token<'a> {
         ensures { result ≡ token_place self.now }
     {
         match self {
-            Token::Letter(word) => word.place,
+            Token::Letter(word) | Token::Class(word) => word.place,
             Token::Number(number) => number.place,
-            Token::Class(word) => word.place,
         }
     }
 
@@ -83,9 +73,6 @@ impl<'a> Token<'a> {
     pub fn fault(&self, cause: Cause) -> WordFault
         ensures { result ≡ fault_at (token_place self.now) cause }
     {
-        WordFault {
-            cause,
-            place: self.place(),
-        }
+        cause.at(self.place())
     }
 }

@@ -1,20 +1,9 @@
 //! Serves the calls of standard input line by line, and prints each answer.
 #![tactic(auto)]
 
+use answering::answer_input;
 use lines::reply::{MAX_INPUT, reply};
-use std::io::{Read, Write};
-
-fn run(rt: &HostRuntime) -> anyhow::Result<()> {
-    let mut input = Vec::new(rt.alloc());
-    // One byte more than is taken, so that an input that is too long is seen.
-    rt.stdin()
-        .take(MAX_INPUT as u64 + 1)
-        .read_to_end(&mut input)?;
-    let text = reply(rt.alloc(), input.as_slice())?;
-    rt.stdout().write_all(text.as_bytes())?;
-    Ok(())
-}
 
 fn main(rt: HostRuntime) -> anyhow::Result<()> {
-    run(&rt)
+    answer_input(&rt, MAX_INPUT, reply)
 }

@@ -6,4 +6,3 @@ pub mod lists;
 pub mod orders;
 pub mod policies;
 pub mod ranking;
-pub mod shifting;

@@ -6,7 +6,7 @@ ghost use Rattle.std.proofs.Common.{rules};
 
 use crate::ranking::Ranking;
 use jobs::job::Job;
-use jobs::ranges::MAX_THRESHOLD;
+use jobs::ranges::THRESHOLDS;
 use jobs::refusal::Refusal;
 
 /// A ranking of jobs, those to go first standing first, that also says which jobs it spares.
@@ -82,7 +82,7 @@ impl<P: Policy + Drop> Shelter<P> {
     pub fn over(policy: P, threshold: u32) -> Result<Shelter<P>, Refusal>
         ensures { MatchResult result (λ s. (s.policy ≡ policy) × (s.threshold ≡ threshold)) (λ e. (e ≡ Refusal.Range) × (1000000 < threshold)) }
     {
-        if threshold > MAX_THRESHOLD {
+        if !THRESHOLDS.contains(threshold) {
             return Err(Refusal::Range);
         }
         Ok(Shelter { policy, threshold })

@@ -15,7 +15,9 @@ use Rattle.rules.specs.Ranges.{JobInRange, LineInRange, Fields}
 use Rattle.rules.specs.States.{Parts, LawfulParts, ended_order, State}
 use Rattle.rules.proofs.Keeping.{count_all, all_insert_all, all_kept, all_mapped}
 use Rattle.rules.proofs.Sweeping.{sweep_count, sweep_all_ready, sweep_all_parked}
-use Rattle.rules.proofs.Lengths.{all_of_them, length_insert, length_insert_all, length_split, length_map}
+use Rattle.rules.proofs.Lengths.{all_of_them, length_insert, length_insert_all}
+use Rattle.std.proofs.lemmas.List.{length-map}
+use Rattle.std.proofs.lemmas.List.Filters.{length-filter_both}
 
 -- a job or a line stays in range as the clock rises
 pub job_later : (t u : ℕ) → t ≤ u → (j : Job) → JobInRange t j → JobInRange u j
@@ -58,8 +60,8 @@ module _ (ρ : Parts) (laws : LawfulParts ρ) where
   fields_expired s f =
       let lates = filter (late s.clock) s.parked in
       let gone = length_insert_all ended_order (map (ends s.clock Missed) lates) s.ended in
-      let made = length_map (ends s.clock Missed) lates in
-      let split = length_split (late s.clock) s.parked in
+      let made = length-map lates (ends s.clock Missed) in
+      let split = length-filter_both (late s.clock) _ (λ _. refl) s.parked in
       record {
         few = let was = f.few in omega arith;
         ready = f.ready;

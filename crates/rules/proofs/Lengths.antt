@@ -1,7 +1,8 @@
 -- How long lists are that records were put into or left out of.
-use Rattle.std.proofs.Common.{◌≡◌, ℕ, suc, ◌+◌, ◌≤◌, Bool, true, false, cond, not, ltb, List, [], ◌∷◌, map, length, filter, sym, refl, ap, ◌∙◌, inl, inr, arith}
+use Rattle.std.proofs.Common.{◌≡◌, ℕ, ◌+◌, ◌≤◌, Bool, true, false, cond, ltb, List, [], ◌∷◌, length, filter, sym, refl, ap, ◌∙◌, inl, inr, arith}
 use Rattle.std.proofs.lemmas.Bool.{cases_Bool, eq-eqb, ne_eqb, eqb-true, eqb-false}
 use Rattle.std.proofs.lemmas.Bool.Decides.{nat_tests}
+use Rattle.std.proofs.lemmas.List.Filters.{length-filter_both}
 use Rattle.std.specs.List.{AllByRecursion as Every}
 use Rattle.jobs.specs.declared.job.Job.{Job}
 use Rattle.jobs.specs.Records.{number}
@@ -10,7 +11,7 @@ use Rattle.rules.specs.Giving.{among, without}
 use Rattle.rules.specs.Lists.{insert_all, count, Among}
 use Rattle.rules.specs.States.{State, has}
 use Rattle.rules.proofs.Invariant.{Books}
-use Rattle.rules.proofs.Keeping.{some_count, count_insert, count_insert_all, count_split, count_all, counted}
+use Rattle.rules.proofs.Keeping.{some_count, count_insert, count_insert_all, count_all, counted}
 use Rattle.rules.proofs.Sweeping.{count_own}
 
 -- how many there are, as a count of all
@@ -22,13 +23,6 @@ length_insert first x xs = sym (count_all (insert first x xs)) ∙ count_insert 
 
 pub length_insert_all : {A : Type 0} (first : A → A → Bool) (xs ys : List A) → length (insert_all first xs ys) ≡ length xs + length ys
 length_insert_all first xs ys = sym (count_all (insert_all first xs ys)) ∙ count_insert_all all_of_them first xs ys ∙ (λ i. count_all xs i + count_all ys i)
-
-pub length_split : {A : Type 0} (keep : A → Bool) (xs : List A) → length (filter keep xs) + length (filter (λ x. not (keep x)) xs) ≡ length xs
-length_split keep xs = (λ i. sym (count_all (filter keep xs)) i + sym (count_all (filter (λ x. not (keep x)) xs)) i) ∙ count_split all_of_them keep xs ∙ count_all xs
-
-pub length_map : {A B : Type 0} (f : A → B) (xs : List A) → length (map f xs) ≡ length xs
-length_map f [] = refl
-length_map f (x ∷ xs) = ap suc (length_map f xs)
 
 -- the jobs that leave the ready list leave room for just as many
 module _ (ready : List Job) (distinct : (n : ℕ) → count (has n) ready ≤ 1) where
@@ -60,7 +54,7 @@ module _ (ready : List Job) (distinct : (n : ℕ) → count (has n) ready ≤ 1)
   pub room_among : (vs : List Job) → Every (λ v. Among (λ r. r ≡ v) ready) vs → ((n : ℕ) → count (has n) vs ≤ count (has n) ready) → length (without vs ready) + length vs ≤ length ready
   room_among vs own few =
       let gone = leavers vs own (λ n. let a = few n in let c = distinct n in omega arith) in
-      let split = length_split (among vs) ready in
+      let split = length-filter_both (among vs) _ (λ _. refl) ready in
       let those = count_kept (among vs) ready in
       omega arith
     where

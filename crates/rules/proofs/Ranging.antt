@@ -25,7 +25,9 @@ use Rattle.rules.proofs.Reaching.{serve_keeps, starts, reached}
 use Rattle.rules.proofs.Refusing.{refusing_cases}
 use Rattle.rules.proofs.Ticking.{tick_keeps}
 use Rattle.rules.proofs.Fields.{line_in_range, fields_swept, fields_ticked, tick_clock}
-use Rattle.rules.proofs.Lengths.{length_insert, length_insert_all, length_split, length_map, room_left}
+use Rattle.rules.proofs.Lengths.{length_insert, length_insert_all, room_left}
+use Rattle.std.proofs.lemmas.List.{length-map}
+use Rattle.std.proofs.lemmas.List.Filters.{length-filter_both}
 
 module _ (ρ : Parts) (laws : LawfulParts ρ) where
   -- ARRIVE
@@ -147,8 +149,8 @@ module _ (ρ : Parts) (laws : LawfulParts ρ) where
     withdrawn_length : (n : ℕ) (ks : List Job) → length (filter (other n) ks) + length (insert_all ended_order (withdrawn s.clock n ks) s.ended) ≡ length ks + length s.ended
     withdrawn_length n ks =
         let more = length_insert_all ended_order (withdrawn s.clock n ks) s.ended in
-        let made = length_map (ends s.clock Withdrawn) (filter (has n) ks) in
-        let split = length_split (has n) ks in
+        let made = length-map (filter (has n) ks) (ends s.clock Withdrawn) in
+        let split = length-filter_both (has n) _ (λ _. refl) ks in
         omega arith
 
     withdraw_fields : (n : ℕ) → InFields (on_withdraw ρ s n)

@@ -88,7 +88,7 @@ every_run_is_sound ρ laws ks = sound ρ laws (after ρ start ks) (trace ρ star
 
 -- ONE CALL MORE
 
-after_append : (ρ : Parts) (ks ls : List Call) (s : State) → after ρ s (ks ++ ls) ≡ after ρ (after ρ s ks) ls
+pub after_append : (ρ : Parts) (ks ls : List Call) (s : State) → after ρ s (ks ++ ls) ≡ after ρ (after ρ s ks) ls
 after_append ρ [] ls s = refl
 after_append ρ (k ∷ ks) ls s = after_append ρ ks ls (serve ρ s k).state
 

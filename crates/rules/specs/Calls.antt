@@ -3,13 +3,11 @@ use Rattle.std.specs.Prelude.{ℕ, zero, suc, ◌+◌, ◌-◌, Bool, true, fals
 use Rattle.jobs.specs.declared.ending.EndKind.{EndKind}
 use Rattle.jobs.specs.declared.ending.EndKind.TheVariants.{InTime, Missed, Withdrawn}
 use Rattle.jobs.specs.declared.ending.Ending.{Ending}
-use Rattle.jobs.specs.declared.job.Class.{Class}
-use Rattle.jobs.specs.declared.job.Class.TheVariants.{Hard, Critical}
 use Rattle.jobs.specs.declared.job.Job.{Job}
 use Rattle.jobs.specs.declared.refusal.Refusal.{Refusal}
 use Rattle.jobs.specs.declared.refusal.Refusal.TheVariants.{Range, Class as ClassRule, Horizon, Known, Full, Hopeless, Unknown, Waiting, Nothing}
 use Rattle.rankings.specs.Ranked.{insert}
-use Rattle.jobs.specs.Records.{number, limit}
+use Rattle.jobs.specs.Records.{class_of, number, limit}
 use Rattle.timing.specs.Timing.{exceeding, cause}
 use Rattle.rules.specs.Giving.{place, fits, swept, among, without, victims}
 use Rattle.rules.specs.Lists.{insert_all, some, count}
@@ -28,10 +26,6 @@ refusing false e s o = o
 abbrev pub out_of_range : Arrival → Bool
 out_of_range a =
     not (between 1 65535 a.number && (between 1 1000000 a.computation && (between 1 100000000 a.deadline_in && (nat_le a.tolerance 100000000 && nat_le a.value 65535))))
-
-abbrev pub class_of : ℕ → Class
-class_of zero = Hard
-class_of (suc n) = Critical
 
 -- the job that arrives
 abbrev pub job_of : State → Arrival → Job

@@ -11,106 +11,86 @@ use stores::ready::ReadyStore;
 use stores::row::Row;
 use timing::entry::Entry;
 
-type Plain = Scheduler<Row, ByDeadline, ByValue>;
-
 /// A scheduler with ready, parked and ended jobs, always the same.
 fn busy(rt: &impl Abort) -> Plain {
-    let mut s = Scheduler::new(Row::new(), ByDeadline, ByValue);
-    let calls = [
-        hard(21, 4, 6, 9),
-        hard(22, 6, 11, 1),
-        hard(23, 3, 5, 10),
-        Call::Work(1),
-        hard(24, 1, 2, 1),
-        Call::Withdraw(24),
-    ];
-    let due = [
-        ready(0, 0, 0),
-        ready(0, 0, 0),
-        ready(2, 22, 1),
-        Answer::Now(1),
-        ready(0, 0, 0),
-        Answer::Gone,
-    ];
-    expect(rt, &mut s, &calls, &due);
+    let mut s = plain();
+    expect(
+        rt,
+        &mut s,
+        &[
+            (hard(21, 4, 6, 9), ready(0, 0, 0)),
+            (hard(22, 6, 11, 1), ready(0, 0, 0)),
+            (hard(23, 3, 5, 10), ready(2, 22, 1)),
+            (Call::Work(1), Ok(Answer::Now(1))),
+            (hard(24, 1, 2, 1), ready(0, 0, 0)),
+            (Call::Withdraw(24), Ok(Answer::Gone)),
+        ],
+    );
     s
 }
 
-fn alike(rt: &impl Abort, a: &Plain, b: &Plain) -> Result<(), Fail> {
+fn alike(rt: &impl Abort, a: &Plain, b: &Plain) {
     assert_eq!(rt; a.clock(), b.clock());
-    assert_eq!(rt; a.ready().len(), b.ready().len());
-    for place in 0..a.ready().len() {
-        assert_eq!(rt; a.ready().read(place)?, b.ready().read(place)?);
-    }
-    assert_eq!(rt; a.parked().len(), b.parked().len());
-    for (x, y) in a.parked().iter().zip(b.parked().iter()) {
-        assert_eq!(rt; *x, *y);
-    }
-    assert_eq!(rt; a.ended().len(), b.ended().len());
-    for (x, y) in a.ended().iter().zip(b.ended().iter()) {
-        assert_eq!(rt; *x, *y);
-    }
-    Ok(())
+    assert_eq!(rt; a.ready().as_slice(), b.ready().as_slice());
+    assert_eq!(rt; a.parked(), b.parked());
+    assert_eq!(rt; a.ended(), b.ended());
 }
 
 /// The call is refused so, and the scheduler stands as one that never had it.
-fn refused(rt: &impl Abort, call: Call, refusal: Refusal, number: u8) -> Result<(), Fail> {
+fn refused(rt: &impl Abort, call: Call, refusal: Refusal, number: u8) {
     let mut s = busy(rt);
-    expect(rt, &mut s, &[call], &[Answer::Refused(refusal)]);
+    expect(rt, &mut s, &[(call, Err(refusal))]);
     assert_eq!(rt; refusal.number(), number);
-    alike(rt, &s, &busy(rt))
+    alike(rt, &s, &busy(rt));
 }
 
 /// The number of the refusal, 0 if there is none.
 fn refusal_number<T: Drop>(answer: Result<T, Refusal>) -> u8 {
-    match answer {
-        Ok(_) => 0,
-        Err(refusal) => refusal.number(),
-    }
+    answer.err().map_or(0, |refusal| refusal.number())
 }
 
 #[test]
-fn ranges(rt: HostRuntime) -> Result<(), Fail> {
-    refused(&rt, hard(0, 1, 1, 0), Refusal::Range, 1)?;
-    refused(&rt, hard(65_536, 1, 1, 0), Refusal::Range, 1)?;
-    refused(&rt, hard(1, 0, 1, 0), Refusal::Range, 1)?;
-    refused(&rt, hard(1, 1_000_001, 1, 0), Refusal::Range, 1)?;
-    refused(&rt, hard(1, 1, 0, 0), Refusal::Range, 1)?;
-    refused(&rt, hard(1, 1, 100_000_001, 0), Refusal::Range, 1)?;
-    refused(&rt, hard(1, 1, 1, 65_536), Refusal::Range, 1)?;
-    refused(&rt, tolerant(1, 1, 1, 0, 100_000_001), Refusal::Range, 1)?;
-    refused(&rt, Call::Work(0), Refusal::Range, 1)?;
-    refused(&rt, Call::Work(10_001), Refusal::Range, 1)?;
-    refused(&rt, Call::Finish(65_536), Refusal::Range, 1)?;
-    refused(&rt, Call::Withdraw(0), Refusal::Range, 1)
+fn ranges(rt: HostRuntime) {
+    refused(&rt, hard(0, 1, 1, 0), Refusal::Range, 1);
+    refused(&rt, hard(65_536, 1, 1, 0), Refusal::Range, 1);
+    refused(&rt, hard(1, 0, 1, 0), Refusal::Range, 1);
+    refused(&rt, hard(1, 1_000_001, 1, 0), Refusal::Range, 1);
+    refused(&rt, hard(1, 1, 0, 0), Refusal::Range, 1);
+    refused(&rt, hard(1, 1, 100_000_001, 0), Refusal::Range, 1);
+    refused(&rt, hard(1, 1, 1, 65_536), Refusal::Range, 1);
+    refused(&rt, tolerant(1, 1, 1, 0, 100_000_001), Refusal::Range, 1);
+    refused(&rt, Call::Work(0), Refusal::Range, 1);
+    refused(&rt, Call::Work(10_001), Refusal::Range, 1);
+    refused(&rt, Call::Finish(65_536), Refusal::Range, 1);
+    refused(&rt, Call::Withdraw(0), Refusal::Range, 1);
 }
 
 #[test]
-fn rules(rt: HostRuntime) -> Result<(), Fail> {
-    refused(&rt, Call::Arrive(arrival(2, 1, 1, 1, 0)), Refusal::Class, 2)?;
+fn rules(rt: HostRuntime) {
+    refused(&rt, Call::Arrive(arrival(2, 1, 1, 1, 0)), Refusal::Class, 2);
     // Ready, parked, ended: known.
-    refused(&rt, hard(23, 1, 1, 0), Refusal::Known, 4)?;
-    refused(&rt, hard(21, 1, 1, 0), Refusal::Known, 4)?;
-    refused(&rt, hard(24, 1, 1, 0), Refusal::Known, 4)?;
-    refused(&rt, tolerant(1, 6, 4, 0, 1), Refusal::Hopeless, 6)?;
-    refused(&rt, Call::Finish(9), Refusal::Unknown, 7)?;
-    refused(&rt, Call::Withdraw(24), Refusal::Unknown, 7)?;
+    refused(&rt, hard(23, 1, 1, 0), Refusal::Known, 4);
+    refused(&rt, hard(21, 1, 1, 0), Refusal::Known, 4);
+    refused(&rt, hard(24, 1, 1, 0), Refusal::Known, 4);
+    refused(&rt, tolerant(1, 6, 4, 0, 1), Refusal::Hopeless, 6);
+    refused(&rt, Call::Finish(9), Refusal::Unknown, 7);
+    refused(&rt, Call::Withdraw(24), Refusal::Unknown, 7);
     // Behind the first, and parked: not to be finished.
-    refused(&rt, Call::Finish(22), Refusal::Waiting, 8)?;
-    refused(&rt, Call::Finish(21), Refusal::Waiting, 8)
+    refused(&rt, Call::Finish(22), Refusal::Waiting, 8);
+    refused(&rt, Call::Finish(21), Refusal::Waiting, 8);
 }
 
 #[test]
 fn exactly_enough_time_is_enough(rt: HostRuntime) {
-    let mut s = Scheduler::new(Row::new(), ByDeadline, ByValue);
-    expect(&rt, &mut s, &[tolerant(1, 5, 4, 0, 1)], &[ready(0, 0, 0)]);
+    let mut s = plain();
+    expect(&rt, &mut s, &[(tolerant(1, 5, 4, 0, 1), ready(0, 0, 0))]);
 }
 
 #[test]
-fn nothing_to_collect(rt: HostRuntime) -> Result<(), Fail> {
-    let mut s = Scheduler::new(Row::new(), ByDeadline, ByValue);
+fn nothing_to_collect(rt: HostRuntime) {
+    let mut s = plain();
     assert_eq!(rt; refusal_number(s.collect()), 9);
-    alike(&rt, &s, &Scheduler::new(Row::new(), ByDeadline, ByValue))
+    alike(&rt, &s, &plain());
 }
 
 #[test]
@@ -129,19 +109,19 @@ fn a_table_too_short(rt: HostRuntime) {
 
 #[test]
 fn the_65th_job(rt: HostRuntime) {
-    let mut s = Scheduler::new(Row::new(), ByDeadline, ByValue);
+    let mut s = plain();
     for number in 1..65 {
-        expect(&rt, &mut s, &[hard(number, 1, 1_000, 0)], &[ready(0, 0, 0)]);
+        expect(&rt, &mut s, &[(hard(number, 1, 1_000, 0), ready(0, 0, 0))]);
     }
-    let full = [Answer::Refused(Refusal::Full)];
-    expect(&rt, &mut s, &[hard(65, 1, 1_000, 0)], &full);
+    let last = (hard(65, 1, 1_000, 0), Err(Refusal::Full));
+    expect(&rt, &mut s, &[last]);
     assert_eq!(rt; Refusal::Full.number(), 5);
     assert_eq!(rt; s.ready().len(), 64);
 }
 
 #[test]
 fn the_end_of_the_clock(rt: HostRuntime) -> Result<(), Fail> {
-    let mut s = Scheduler::new(Row::new(), ByDeadline, ByValue);
+    let mut s = plain();
     for _ in 0..99_999 {
         s.work(10_000)?;
     }

@@ -1,15 +1,26 @@
 //! What the tests share: calls in short, and a run held to the answers that are due.
 use admission::admitting::{Admission, Verdict};
 use jobs::ending::{EndKind, Ending};
-use jobs::job::Mark;
-use rankings::policies::Policy;
+use jobs::job::{Job, Mark};
+use jobs::refusal::Refusal;
+use rankings::orders::ByDeadline;
+use rankings::policies::{ByValue, Policy};
 use rankings::ranking::Ranking;
 use scheduler::calls::{Answer, Arrival, Call};
 use scheduler::scheduler::Scheduler;
 use std::process::Abort;
-use std::test::Fail;
-use stores::ready::ReadyStore;
 use stores::row::Row;
+use timing::overrun::Overrun;
+
+/// What a call is to be answered.
+pub type Due = Result<Answer, Refusal>;
+
+/// Ready jobs in a row, worked by their deadlines, the smaller value giving way first.
+pub type Plain = Scheduler<Row, ByDeadline, ByValue>;
+
+pub fn plain() -> Plain {
+    Scheduler::new(Row::new(), ByDeadline, ByValue)
+}
 
 pub fn arrival(class: u32, number: u32, computation: u32, deadline_in: u32, value: u32) -> Arrival {
     Arrival {
@@ -38,72 +49,74 @@ pub fn tolerant(
     value: u32,
     tolerance: u32,
 ) -> Call {
-    let mut job = arrival(0, number, computation, deadline_in, value);
-    job.tolerance = tolerance;
-    Call::Arrive(job)
-}
-
-pub fn ready(exceeding: u64, cause: u16, displaced: usize) -> Answer {
-    Answer::Admitted(Admission {
-        verdict: Verdict::Ready,
-        exceeding,
-        cause,
-        displaced,
+    Call::Arrive(Arrival {
+        tolerance,
+        ..arrival(0, number, computation, deadline_in, value)
     })
 }
 
-pub fn parked(exceeding: u64, cause: u16) -> Answer {
-    Answer::Admitted(Admission {
+/// The overrun by so much, none by 0.
+fn overrun(by: u64, cause: u16) -> Option<Overrun> {
+    if by == 0 {
+        return None;
+    }
+    Some(Overrun { by, cause })
+}
+
+pub fn ready(exceeding: u64, cause: u16, displaced: usize) -> Due {
+    Ok(Answer::Admitted(Admission {
+        verdict: Verdict::Ready { displaced },
+        overrun: overrun(exceeding, cause),
+    }))
+}
+
+pub fn parked(exceeding: u64, cause: u16) -> Due {
+    Ok(Answer::Admitted(Admission {
         verdict: Verdict::Parked,
-        exceeding,
-        cause,
-        displaced: 0,
-    })
+        overrun: overrun(exceeding, cause),
+    }))
 }
 
-pub fn missed(number: u16, tick: u32, by: u16) -> Answer {
-    Answer::Ended(Ending {
+pub fn missed(number: u16, tick: u32, by: u16) -> Due {
+    Ok(Answer::Ended(Ending {
         number,
         kind: EndKind::Missed,
         tick,
         by,
-    })
+    }))
 }
 
 /// Serves each call and holds its answer to the one that is due.
 pub fn expect<O: Ranking<Item = Mark>, P: Policy>(
     rt: &impl Abort,
     scheduler: &mut Scheduler<Row, O, P>,
-    calls: &[Call],
-    due: &[Answer],
+    run: &[(Call, Due)],
 ) {
-    assert_eq!(rt; calls.len(), due.len());
-    for (call, answer) in calls.iter().zip(due.iter()) {
-        assert_eq!(rt; scheduler.call(call), *answer);
+    for (call, due) in run {
+        assert_eq!(rt; scheduler.call(call), *due);
     }
 }
 
-/// The ready jobs have these numbers, in this order.
+/// The jobs have these numbers, in this order.
+fn have_numbers(rt: &impl Abort, jobs: &[Job], numbers: &[u16]) {
+    assert_eq!(rt; jobs.len(), numbers.len());
+    for (job, number) in jobs.iter().zip(numbers) {
+        assert_eq!(rt; job.mark.number, *number);
+    }
+}
+
 pub fn stand_ready<O: Ranking<Item = Mark>, P: Policy>(
     rt: &impl Abort,
     scheduler: &Scheduler<Row, O, P>,
     numbers: &[u16],
-) -> Result<(), Fail> {
-    assert_eq!(rt; scheduler.ready().len(), numbers.len());
-    for (place, number) in numbers.iter().enumerate() {
-        assert_eq!(rt; scheduler.ready().read(place)?.mark.number, *number);
-    }
-    Ok(())
+) {
+    have_numbers(rt, scheduler.ready().as_slice(), numbers);
 }
 
-/// The parked jobs have these numbers, in this order.
 pub fn stand_parked<O: Ranking<Item = Mark>, P: Policy>(
     rt: &impl Abort,
     scheduler: &Scheduler<Row, O, P>,
     numbers: &[u16],
 ) {
-    assert_eq!(rt; scheduler.parked().len(), numbers.len());
-    for (job, number) in scheduler.parked().iter().zip(numbers.iter()) {
-        assert_eq!(rt; job.mark.number, *number);
-    }
+    have_numbers(rt, scheduler.parked(), numbers);
 }

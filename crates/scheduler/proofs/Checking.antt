@@ -1,17 +1,14 @@
 -- What the checks of an arrival come to, and what the ranges of a state say of its lists.
-use Rattle.std.proofs.Common.{◌≡◌, ℕ, ◌+◌, ◌<◌, ◌≤◌, Bool, true, false, cond, ◌||◌, ltb, leb, List, [], ◌∷◌, Ok, Err, Result, sym, refl, ap, ◌∙◌, arith}
+use Rattle.std.proofs.Common.{◌≡◌, ℕ, ◌+◌, ◌<◌, ◌≤◌, Bool, true, false, cond, ltb, leb, Ok, Err, Result, sym, refl, ap, ◌∙◌, arith}
 use Rattle.std.proofs.lemmas.Bool.{leb-false}
-use Rattle.jobs.specs.declared.ending.Ending.{Ending}
 use Rattle.jobs.specs.declared.job.Job.{Job}
 use Rattle.jobs.specs.declared.refusal.Refusal.{Refusal}
 use Rattle.jobs.specs.declared.refusal.Refusal.TheVariants.{Range, Class as ClassRule, Known, Full, Hopeless}
 use Rattle.rules.specs.Calls.{refusing, out_of_range, job_of, admit, on_arrive}
-use Rattle.rules.specs.Lists.{some, count}
+use Rattle.rules.specs.Lists.{count}
 use Rattle.rules.specs.Ranges.{JobInRange, InRange, Fields}
-use Rattle.rules.specs.States.{Parts, State, Arrival, refused, Outcome, answers, has, line_has, known, population}
+use Rattle.rules.specs.States.{Parts, State, Arrival, refused, Outcome, answers, has, known, population}
 use Rattle.rules.proofs.Keeping.{all_parts}
-use Rattle.admission.proofs.Among.{known_some}
-use Rattle.stores.specs.Tables.{known as known_in}
 use Rattle.scheduler.specs.Serving.{checked}
 
 -- THE CHECKS AND THE RULE
@@ -55,26 +52,6 @@ module _ (s : State) (a : Arrival) where
       let all = passed_alike (out_of_range a) (ltb 1 a.class) (known s a.number) (leb 64 (population s)) (hopeless a) j (job_of s a) s (admit ρ s (job_of s a)) is in
       (all.0, leb-false 64 (population s) all.1, all.2 ∙ ap (admit ρ s) (sym all.0))
 
-  -- STEP BY STEP: the first test that is true decides
-
-  pub checked_range : out_of_range a ≡ true → checked s a ≡ Err Range
-  checked_range range = λ i. checks (range i) (ltb 1 a.class) (known s a.number) (leb 64 (population s)) (hopeless a) (job_of s a)
-
-  pub checked_class : out_of_range a ≡ false → ltb 1 a.class ≡ true → checked s a ≡ Err ClassRule
-  checked_class range class = λ i. checks (range i) (class i) (known s a.number) (leb 64 (population s)) (hopeless a) (job_of s a)
-
-  pub checked_known : out_of_range a ≡ false → ltb 1 a.class ≡ false → known s a.number ≡ true → checked s a ≡ Err Known
-  checked_known range class here = λ i. checks (range i) (class i) (here i) (leb 64 (population s)) (hopeless a) (job_of s a)
-
-  pub checked_full : out_of_range a ≡ false → ltb 1 a.class ≡ false → known s a.number ≡ false → leb 64 (population s) ≡ true → checked s a ≡ Err Full
-  checked_full range class here full = λ i. checks (range i) (class i) (here i) (full i) (hopeless a) (job_of s a)
-
-  pub checked_hopeless : out_of_range a ≡ false → ltb 1 a.class ≡ false → known s a.number ≡ false → leb 64 (population s) ≡ false → ltb (a.deadline_in + a.tolerance) a.computation ≡ true → checked s a ≡ Err Hopeless
-  checked_hopeless range class here full late = λ i. checks (range i) (class i) (here i) (full i) (late i) (job_of s a)
-
-  pub checked_all : out_of_range a ≡ false → ltb 1 a.class ≡ false → known s a.number ≡ false → leb 64 (population s) ≡ false → ltb (a.deadline_in + a.tolerance) a.computation ≡ false → checked s a ≡ Ok (job_of s a)
-  checked_all range class here full late = λ i. checks (range i) (class i) (here i) (full i) (late i) (job_of s a)
-
 -- A STATE IN RANGE
 
 module _ (s : State) (r : InRange s) where
@@ -89,22 +66,3 @@ module _ (s : State) (r : InRange s) where
 
   pub in_range_parked_once : (n : ℕ) → count (has n) s.parked ≤ 1
   in_range_parked_once n = let all = r.once n in omega arith
-
--- A NUMBER IN A LIST, as the tables look for it and as the rules do
-
-pub known_some_line : (n : ℕ) (es : List Ending) → known_in (λ e. e.number) n es ≡ some (line_has n) es
-known_some_line n [] = refl
-known_some_line n (e ∷ es) = ap (λ b. line_has n e || b) (known_some_line n es)
-
--- a number is known where it stands in one of the lists
-module _ (s : State) (n : ℕ) where
-  pub known_ready : some (has n) s.ready ≡ true → true ≡ known s n
-  known_ready here = sym (ap (λ b. (b || some (has n) s.parked) || some (line_has n) s.ended) here)
-
-  pub known_parked : some (has n) s.ready ≡ false → known_in (λ j. j.mark.number) n s.parked ≡ true → true ≡ known s n
-  known_parked not_ready here =
-      sym (λ i. (not_ready i || (sym (known_some n s.parked) ∙ here) i) || some (line_has n) s.ended)
-
-  pub known_ended : some (has n) s.ready ≡ false → known_in (λ j. j.mark.number) n s.parked ≡ false → known_in (λ e. e.number) n s.ended ≡ known s n
-  known_ended not_ready not_parked =
-      known_some_line n s.ended ∙ sym (λ i. (not_ready i || (sym (known_some n s.parked) ∙ not_parked) i) || some (line_has n) s.ended)

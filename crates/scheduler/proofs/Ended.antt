@@ -1,16 +1,15 @@
 -- Finish and withdraw, from what is found of the job in the lists to what the call promises.
-use Rattle.std.proofs.Common.{◌≡◌, ℕ, ◌+◌, ◌<◌, ◌≤◌, true, false, List, length, sym, ap, ◌∙◌, subst, arith}
+use Rattle.std.proofs.Common.{◌≡◌, ℕ, ◌<◌, ◌≤◌, true, false, length, sym, ap, ◌∙◌, subst, arith}
 use Rattle.jobs.specs.declared.ending.EndKind.TheVariants.{InTime, Withdrawn}
-use Rattle.jobs.specs.declared.ending.Ending.{Ending}
 use Rattle.jobs.specs.declared.job.Job.{Job}
 use Rattle.jobs.specs.declared.refusal.Refusal.{Refusal}
 use Rattle.jobs.specs.declared.refusal.Refusal.TheVariants.{Range, Unknown, Waiting}
 use Rattle.rules.specs.Calls.{between, serve}
 use Rattle.rules.specs.Lists.{some}
-use Rattle.rules.specs.States.{Parts, LawfulParts, State, Call, finish, withdraw, Answer, saved, gone, refused, answers, has}
+use Rattle.rules.specs.States.{Parts, LawfulParts, State, Call, finish, withdraw, Answer, saved, gone, refused, answers, has, population}
 use Rattle.stores.specs.Tables.{known}
 use Rattle.admission.proofs.Among.{known_some}
-use Rattle.admission.specs.Steps.{state, Ended, SweptAfter}
+use Rattle.admission.specs.Steps.{ReadyEnded, ParkedEnded}
 use Rattle.scheduler.specs.Serving.{Serves}
 use Rattle.scheduler.proofs.Answering.{finish_range, finish_unknown, finish_not_first, finish_parked, withdraw_range, withdraw_unknown, pending_ready, pending_parked}
 use Rattle.scheduler.proofs.Checking.{in_range_ready_once, in_range_parked_once}
@@ -50,13 +49,13 @@ module _ (ρ : Parts) (laws : LawfulParts ρ) (s : State) (n : ℕ) where
       there : Found n s.ready 0
       there = subst (λ x. Found x s.ready 0) named.1 (subst (Found m s.ready) first found)
 
-      pub finish_done : (rs' ps' : List Job) (es' : List Ending) (j : Job) → SweptAfter ρ p InTime s.clock s.ready s.parked s.ended rs' ps' es' j → Serves ρ s (finish n) (saved j.remaining) (state s.clock rs' ps' es')
-      finish_done rs' ps' es' j done =
-          taken_on ρ laws s (finish n) (saved j.remaining) (state s.clock rs' ps' es')
-          (λ _. finish_exact ρ s n rs' ps' es' j named.0 there (subst (λ q. SweptAfter ρ q InTime s.clock s.ready s.parked s.ended rs' ps' es' j) first done))
+      pub finish_done : (s' : State) (j : Job) → ReadyEnded ρ p InTime s s' j → Serves ρ s (finish n) (saved j.remaining) s'
+      finish_done s' j done =
+          taken_on ρ laws s (finish n) (saved j.remaining) s'
+          (λ _. finish_exact ρ s n s' j named.0 there (subst (λ q. ReadyEnded ρ q InTime s s' j) first done))
           (finish_heard ρ s n named.0 there)
 
-      pub finish_full : (r : Answer) (s' : State) → (p < length s.ready → 64 < length s.ready + (length s.parked + length s.ended)) → Serves ρ s (finish n) r s'
+      pub finish_full : (r : Answer) (s' : State) → (p < length s.ready → 64 < population s) → Serves ρ s (finish n) r s'
       finish_full r s' full =
           taken_on ρ laws s (finish n) r s'
           (λ range. absurd (let few = range.few in omega (arith, full found.0)))
@@ -77,13 +76,13 @@ module _ (ρ : Parts) (laws : LawfulParts ρ) (s : State) (n : ℕ) where
       ready_there : Found n s.ready p
       ready_there = subst (λ x. Found x s.ready p) named.1 found
 
-      pub withdraw_done : (rs' ps' : List Job) (es' : List Ending) (j : Job) → SweptAfter ρ p Withdrawn s.clock s.ready s.parked s.ended rs' ps' es' j → Serves ρ s (withdraw n) gone (state s.clock rs' ps' es')
-      withdraw_done rs' ps' es' j done =
-          taken_on ρ laws s (withdraw n) gone (state s.clock rs' ps' es')
-          (λ range. withdraw_ready_exact ρ s n p rs' ps' es' j named.0 (in_range_ready_once s range) ready_there done)
+      pub withdraw_done : (s' : State) (j : Job) → ReadyEnded ρ p Withdrawn s s' j → Serves ρ s (withdraw n) gone s'
+      withdraw_done s' j done =
+          taken_on ρ laws s (withdraw n) gone s'
+          (λ range. withdraw_ready_exact ρ s n p s' j named.0 (in_range_ready_once s range) ready_there done)
           (withdraw_heard ρ s n named.0 (pending_ready s n (found_some n s.ready p ready_there)))
 
-      pub withdraw_full : (r : Answer) (s' : State) → (p < length s.ready → 64 < length s.ready + (length s.parked + length s.ended)) → Serves ρ s (withdraw n) r s'
+      pub withdraw_full : (r : Answer) (s' : State) → (p < length s.ready → 64 < population s) → Serves ρ s (withdraw n) r s'
       withdraw_full r s' full =
           taken_on ρ laws s (withdraw n) r s'
           (λ range. absurd (let few = range.few in omega (arith, full found.0)))
@@ -93,11 +92,11 @@ module _ (ρ : Parts) (laws : LawfulParts ρ) (s : State) (n : ℕ) where
       parked_there : Found n s.parked p
       parked_there = subst (λ x. Found x s.parked p) named.1 found
 
-      pub withdraw_parked_done : (ps' : List Job) (es' : List Ending) (j : Job) → Ended p Withdrawn s.clock s.parked s.ended ps' es' j → Serves ρ s (withdraw n) gone (state s.clock s.ready ps' es')
-      withdraw_parked_done ps' es' j done =
+      pub withdraw_parked_done : (s' : State) (j : Job) → ParkedEnded p Withdrawn s s' j → Serves ρ s (withdraw n) gone s'
+      withdraw_parked_done s' j done =
           let same = named.1 in
-          taken_on ρ laws s (withdraw n) gone (state s.clock s.ready ps' es')
-          (λ range. withdraw_parked_exact ρ s n p ps' es' j named.0 (rw same at unready) (in_range_parked_once s range) parked_there done)
+          taken_on ρ laws s (withdraw n) gone s'
+          (λ range. withdraw_parked_exact ρ s n p s' j named.0 (rw same at unready) (in_range_parked_once s range) parked_there done)
           (withdraw_heard ρ s n named.0 (pending_parked s n (found_some n s.parked p parked_there)))
 
       pub withdraw_parked_full : (r : Answer) (s' : State) → (p < length s.parked → 64 ≤ length s.ended) → Serves ρ s (withdraw n) r s'

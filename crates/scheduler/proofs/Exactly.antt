@@ -1,20 +1,19 @@
 -- From what the steps did to the lists to what the rules say of the call.
-use Rattle.std.proofs.Common.{◌≡◌, ℕ, ◌+◌, ◌≤◌, true, false, List, [], ◌∷◌, get_or, Ok, sym, ap, ◌∙◌, arith}
+use Rattle.std.proofs.Common.{◌≡◌, ℕ, ◌+◌, ◌≤◌, true, false, List, [], ◌∷◌, get_or, Ok, sym, ap, ◌∙◌}
 use Rattle.std.proofs.lemmas.Bool.{cond_both}
+use Rattle.std.specs.List.{remove}
 use Rattle.jobs.specs.Records.{blank}
 use Rattle.jobs.specs.declared.ending.EndKind.{EndKind}
 use Rattle.jobs.specs.declared.ending.EndKind.TheVariants.{InTime, Withdrawn}
-use Rattle.jobs.specs.declared.ending.Ending.{Ending}
 use Rattle.jobs.specs.declared.job.Job.{Job}
 use Rattle.jobs.specs.declared.refusal.Refusal.{Refusal}
-use Rattle.rankings.specs.Ranked.{insert}
 use Rattle.rules.proofs.Distinct.{Distinct}
 use Rattle.rules.specs.Calls.{between, ends, make_way, give_way, admit, on_arrive, after_ticks, on_work, on_finish, on_withdraw}
 use Rattle.rules.specs.Giving.{among, fits, place, swept, victims}
 use Rattle.rules.specs.Lists.{some, count}
-use Rattle.rules.specs.States.{Parts, ended_order, State, Arrival, ready, parked, now_at, saved, gone, refused, answers, has, pending}
+use Rattle.rules.specs.States.{Parts, State, Arrival, ready, parked, now_at, saved, gone, refused, answers, has, pending}
 use Rattle.timing.specs.Timing.{exceeding, cause}
-use Rattle.admission.specs.Steps.{state, Ended, SweptAfter}
+use Rattle.admission.specs.Steps.{with_parked, with_line, ReadyEnded, ParkedEnded}
 use Rattle.scheduler.specs.Serving.{checked}
 use Rattle.scheduler.proofs.Answering.{without_ready, finish_first_is, withdraw_ready, withdraw_parked, withdraw_gone, work_done}
 use Rattle.scheduler.proofs.Checking.{checked_ok}
@@ -22,19 +21,19 @@ use Rattle.scheduler.proofs.Picking.{Found}
 
 -- an answer that is no refusal
 not_saved : (c : ℕ) (e : Refusal) → saved c ≡ refused e → ⊥
-not_saved c e same = let no_way : ◌≡◌ {A = ℕ} 0 1 = cc in omega arith
+not_saved c e same = cc
 
 not_gone : (e : Refusal) → gone ≡ refused e → ⊥
-not_gone e same = let no_way : ◌≡◌ {A = ℕ} 0 1 = cc in omega arith
+not_gone e same = cc
 
 not_now : (t : ℕ) (e : Refusal) → now_at t ≡ refused e → ⊥
-not_now t e same = let no_way : ◌≡◌ {A = ℕ} 0 1 = cc in omega arith
+not_now t e same = cc
 
 not_ready : (a b c : ℕ) (e : Refusal) → ready a b c ≡ refused e → ⊥
-not_ready a b c e same = let no_way : ◌≡◌ {A = ℕ} 0 1 = cc in omega arith
+not_ready a b c e same = cc
 
 not_parked : (a b c : ℕ) (e : Refusal) → parked a b c ≡ refused e → ⊥
-not_parked a b c e same = let no_way : ◌≡◌ {A = ℕ} 0 1 = cc in omega arith
+not_parked a b c e same = cc
 
 -- ARRIVE
 
@@ -64,26 +63,25 @@ module _ (ρ : Parts) (s : State) where
 
   -- A JOB THAT ENDS
 
-  swept_so : (p : ℕ) (k : EndKind) (rs' ps' : List Job) (es' : List Ending) (j : Job) → SweptAfter ρ p k s.clock s.ready s.parked s.ended rs' ps' es' j → swept ρ (without_ready s p (ends s.clock k (get_or s.ready p blank))) ≡ state s.clock rs' ps' es'
-  swept_so p k rs' ps' es' j done =
-      let lines = ap (λ x. insert ended_order (ends s.clock k x) s.ended) (sym done.job) ∙ sym done.lines in
-      (λ i. state s.clock (done.left i).ready (done.left i).parked (lines i))
+  swept_so : (p : ℕ) (k : EndKind) (s' : State) (j : Job) → ReadyEnded ρ p k s s' j → swept ρ (without_ready s p (ends s.clock k (get_or s.ready p blank))) ≡ s'
+  swept_so p k s' j done = ap (λ x. swept ρ (without_ready s p (ends s.clock k x))) (sym done.job) ∙ done.state
 
-  pub finish_exact : (n : ℕ) (rs' ps' : List Job) (es' : List Ending) (j : Job) → between 1 65535 n ≡ true → Found n s.ready 0 → SweptAfter ρ 0 InTime s.clock s.ready s.parked s.ended rs' ps' es' j → on_finish ρ s n ≡ answers (saved j.remaining) (state s.clock rs' ps' es')
-  finish_exact n rs' ps' es' j within found done =
-      finish_first_is ρ s n within found ∙ (λ i. answers (saved (sym done.job i).remaining) (swept_so 0 InTime rs' ps' es' j done i))
+  pub finish_exact : (n : ℕ) (s' : State) (j : Job) → between 1 65535 n ≡ true → Found n s.ready 0 → ReadyEnded ρ 0 InTime s s' j → on_finish ρ s n ≡ answers (saved j.remaining) s'
+  finish_exact n s' j within found done =
+      finish_first_is ρ s n within found ∙ (λ i. answers (saved (sym done.job i).remaining) (swept_so 0 InTime s' j done i))
 
   pub finish_heard : (n : ℕ) → between 1 65535 n ≡ true → Found n s.ready 0 → (e : Refusal) → (on_finish ρ s n).answer ≡ refused e → ⊥
   finish_heard n within found e h = not_saved _ e (sym (ap (λ o. o.answer) (finish_first_is ρ s n within found)) ∙ h)
 
-  pub withdraw_ready_exact : (n p : ℕ) (rs' ps' : List Job) (es' : List Ending) (j : Job) → between 1 65535 n ≡ true → Distinct s.ready → Found n s.ready p → SweptAfter ρ p Withdrawn s.clock s.ready s.parked s.ended rs' ps' es' j → on_withdraw ρ s n ≡ answers gone (state s.clock rs' ps' es')
-  withdraw_ready_exact n p rs' ps' es' j within apart found done =
-      withdraw_ready ρ s n p within apart found ∙ ap (answers gone) (swept_so p Withdrawn rs' ps' es' j done)
+  pub withdraw_ready_exact : (n p : ℕ) (s' : State) (j : Job) → between 1 65535 n ≡ true → Distinct s.ready → Found n s.ready p → ReadyEnded ρ p Withdrawn s s' j → on_withdraw ρ s n ≡ answers gone s'
+  withdraw_ready_exact n p s' j within apart found done =
+      withdraw_ready ρ s n p within apart found ∙ ap (answers gone) (swept_so p Withdrawn s' j done)
 
-  pub withdraw_parked_exact : (n p : ℕ) (ps' : List Job) (es' : List Ending) (j : Job) → between 1 65535 n ≡ true → some (has n) s.ready ≡ false → Distinct s.parked → Found n s.parked p → Ended p Withdrawn s.clock s.parked s.ended ps' es' j → on_withdraw ρ s n ≡ answers gone (state s.clock s.ready ps' es')
-  withdraw_parked_exact n p ps' es' j within unready apart found done =
-      let lines = ap (λ x. insert ended_order (ends s.clock Withdrawn x) s.ended) (sym done.job) ∙ sym done.lines in
-      withdraw_parked ρ s n p within unready apart found ∙ (λ i. answers gone (state s.clock s.ready (sym done.left i) (lines i)))
+  pub withdraw_parked_exact : (n p : ℕ) (s' : State) (j : Job) → between 1 65535 n ≡ true → some (has n) s.ready ≡ false → Distinct s.parked → Found n s.parked p → ParkedEnded p Withdrawn s s' j → on_withdraw ρ s n ≡ answers gone s'
+  withdraw_parked_exact n p s' j within unready apart found done =
+      withdraw_parked ρ s n p within unready apart found
+      ∙ ap (λ x. answers gone (with_parked (remove s.parked p) (with_line Withdrawn x s))) (sym done.job)
+      ∙ ap (answers gone) done.state
 
   pub withdraw_heard : (n : ℕ) → between 1 65535 n ≡ true → pending s n ≡ true → (e : Refusal) → (on_withdraw ρ s n).answer ≡ refused e → ⊥
   withdraw_heard n within here e h = not_gone e (sym (withdraw_gone ρ s n within here) ∙ h)

@@ -1,6 +1,5 @@
 -- Work tick by tick: those to come give the whole.
 use Rattle.std.proofs.Common.{◌≡◌, ℕ, suc, ◌+◌, ◌-◌, ◌<◌, ◌≤◌, sym, ap, ◌∙◌, subst, arith}
-use native.Mathlib.Nat.{sub-zero}
 use Rattle.std.proofs.ByRecursion.{All-weaker}
 use Rattle.rules.proofs.Fields.{fields_ticked}
 use Rattle.rules.specs.Calls.{tick, after_ticks}
@@ -14,9 +13,6 @@ pub record Worked (ρ : Parts) (s : State) (n : ℕ) (w : State) (i : ℕ) : Typ
   pub rest : Fields s → after_ticks ρ (n - i) w ≡ after_ticks ρ n s
 
 module _ (ρ : Parts) (laws : LawfulParts ρ) (s : State) (n : ℕ) where
-  pub worked_none : Worked ρ s n s 0
-  worked_none = record { clock = omega arith; fields = λ f. f; rest = λ _. ap (λ m. after_ticks ρ m s) (sub-zero n) }
-
   pub worked_more : (w w' : State) (i : ℕ) → i < n → Worked ρ s n w i → w'.clock ≡ w.clock + 1 → (Fields w → tick ρ w ≡ w') → Worked ρ s n w' (i + 1)
   worked_more w w' i within so_far at is =
       let left : n - i ≡ suc (n - (i + 1)) = omega arith in

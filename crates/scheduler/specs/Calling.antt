@@ -1,15 +1,12 @@
 -- Calls and answers of the code as those of the rules.
-use Rattle.std.specs.Prelude.{◌≡◌, ℕ, ◌<◌, ◌≤◌, Ok, Err, Result}
-use Rattle.jobs.specs.declared.ending.Ending.{Ending}
-use Rattle.jobs.specs.declared.job.Class.{Class}
+use Rattle.std.specs.Prelude.{◌≡◌, ℕ, true, false, Ok, Err, Result}
 use Rattle.jobs.specs.declared.refusal.Refusal.{Refusal}
-use Rattle.jobs.specs.declared.refusal.Refusal.TheVariants.{Class as ClassRule}
-use Rattle.rules.specs.Calls.{class_of}
+use Rattle.jobs.specs.declared.refusal.Refusal.TheVariants.{Range}
+use Rattle.rules.specs.Calls.{between}
 use Rattle.rules.specs.States.{Arrival, Call, arrive, work, finish, withdraw, collect, Answer, now_at, saved, gone, line, refused}
 use Rattle.admission.specs.Steps.{told}
-use Rattle.admission.specs.declared.admitting.Admission.{Admission}
 use Rattle.scheduler.specs.declared.calls.Answer.{Answer as Answered}
-use Rattle.scheduler.specs.declared.calls.Answer.TheVariants.{Admitted, Now, Saved, Gone, Ended, Refused}
+use Rattle.scheduler.specs.declared.calls.Answer.TheVariants.{Admitted, Now, Saved, Gone, Ended}
 use Rattle.scheduler.specs.declared.calls.Arrival.{Arrival as Asking}
 use Rattle.scheduler.specs.declared.calls.Call.{Call as Calling}
 use Rattle.scheduler.specs.declared.calls.Call.TheVariants.{Arrive, Work, Finish, Withdraw, Collect}
@@ -24,37 +21,22 @@ asked_call (Finish n) = finish n
 asked_call (Withdraw n) = withdraw n
 asked_call Collect = collect
 
-abbrev pub answered : Answered → Answer
-answered (Admitted a) = told a
-answered (Now t) = now_at t
-answered (Saved c) = saved c
-answered Gone = gone
-answered (Ended e) = line e
-answered (Refused e) = refused e
+-- what a call is answered, or the refusal
+abbrev pub or_refused : {T : Type 0} → (T → Answer) → Result T Refusal → Answer
+or_refused says (Ok x) = says x
+or_refused says (Err e) = refused e
 
--- what each call answers by itself, or the refusal
+abbrev pub answer_of : Answered → Answer
+answer_of (Admitted a) = told a
+answer_of (Now t) = now_at t
+answer_of (Saved c) = saved c
+answer_of Gone = gone
+answer_of (Ended e) = line e
 
-abbrev pub on_admission : Result Admission Refusal → Answer
-on_admission (Ok a) = told a
-on_admission (Err e) = refused e
+abbrev pub answered : Result Answered Refusal → Answer
+answered r = or_refused answer_of r
 
-abbrev pub on_clock : Result ℕ Refusal → Answer
-on_clock (Ok t) = now_at t
-on_clock (Err e) = refused e
-
-abbrev pub on_saved : Result ℕ Refusal → Answer
-on_saved (Ok c) = saved c
-on_saved (Err e) = refused e
-
-abbrev pub on_gone : Result (Unit {0}) Refusal → Answer
-on_gone (Ok _) = gone
-on_gone (Err e) = refused e
-
-abbrev pub on_line : Result Ending Refusal → Answer
-on_line (Ok x) = line x
-on_line (Err e) = refused e
-
--- 0 is HARD, 1 is CRITICAL, any other number is refused
-abbrev pub Classed : ℕ → Result Class Refusal → Type 0
-Classed n (Ok c) = (n ≤ 1) × (c ≡ class_of n)
-Classed n (Err e) = (1 < n) × (e ≡ ClassRule)
+-- a job's number, 1 to 65,535
+abbrev pub NumberedSo : ℕ → Result ℕ Refusal → Type 0
+NumberedSo n (Ok m) = (between 1 65535 n ≡ true) × (m ≡ n)
+NumberedSo n (Err e) = (between 1 65535 n ≡ false) × (e ≡ Range)

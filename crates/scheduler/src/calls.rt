@@ -1,13 +1,16 @@
 //! What a scheduler is asked, and what it answers.
-ghost use Rattle.std.specs.Prelude.{◌≡◌, not};
+ghost use Rattle.std.specs.Prelude.{◌≡◌, not, Some};
 ghost use Rattle.rules.specs.Calls.{out_of_range};
-ghost use Rattle.scheduler.specs.Calling.{asked, Classed};
+ghost use Rattle.jobs.specs.Records.{Classed};
+ghost use Rattle.scheduler.specs.Calling.{asked};
+ghost use Rattle.scheduler.specs.Written.{answer_text};
 
-use admission::admitting::Admission;
+use admission::admitting::{Admission, Verdict};
 use jobs::ending::Ending;
 use jobs::job::Class;
-use jobs::ranges::{MAX_COMPUTATION, MAX_DEADLINE_IN, MAX_NUMBER, MAX_TOLERANCE, MAX_VALUE};
+use jobs::ranges::{COMPUTATIONS, DEADLINES_IN, NUMBERS, TOLERANCES, VALUES};
 use jobs::refusal::Refusal;
+use std::fmt;
 
 /// A job that arrives. The fields are wider than their ranges, so that every value can be passed, and refused.
 #[derive(Clone, Copy, PartialEq, Eq, Debug)]
@@ -31,25 +34,18 @@ impl Arrival {
     pub fn in_range(&self) -> bool
         ensures { result ≡ not (out_of_range (asked self.now)) }
     {
-        1 <= self.number
-            && self.number <= u32::from(MAX_NUMBER)
-            && 1 <= self.computation
-            && self.computation <= MAX_COMPUTATION
-            && 1 <= self.deadline_in
-            && self.deadline_in <= MAX_DEADLINE_IN
-            && self.tolerance <= MAX_TOLERANCE
-            && self.value <= u32::from(MAX_VALUE)
+        NUMBERS.contains(self.number)
+            && COMPUTATIONS.contains(self.computation)
+            && DEADLINES_IN.contains(self.deadline_in)
+            && TOLERANCES.contains(self.tolerance)
+            && VALUES.contains(self.value)
     }
 
     /// The class that the number names.
     pub fn class(&self) -> Result<Class, Refusal>
         ensures { Classed self.now.class result }
     {
-        match self.class {
-            0 => Ok(Class::Hard),
-            1 => Ok(Class::Critical),
-            _ => Err(Refusal::Class),
-        }
+        Class::try_from(self.class)
     }
 }
 
@@ -66,7 +62,7 @@ pub enum Call {
     Collect,
 }
 
-/// What a call is answered.
+/// What a call that is not refused is answered.
 #[derive(Clone, Copy, PartialEq, Eq, Debug)]
 pub enum Answer {
     Admitted(Admission),
@@ -76,5 +72,34 @@ pub enum Answer {
     Saved(u32),
     Gone,
     Ended(Ending),
-    Refused(Refusal),
+}
+
+/// An answer is written as one line: `VERDICT E CAUSE COUNT`, `now CLOCK`, `done SAVED`, `gone` or `ended NUMBER KIND TICK BY`.
+impl fmt::Display for Answer {
+    ghost output = { λ a. Some (answer_text a) };
+
+    fn fmt<W: fmt::Write>(&self, f: &mut fmt::Formatter<W>) -> fmt::Result {
+        match self {
+            Answer::Admitted(Admission { verdict, overrun }) => {
+                let (verdict, displaced) = match verdict {
+                    Verdict::Ready { displaced } => ("ready", *displaced),
+                    Verdict::Parked => ("parked", 0),
+                };
+                let exceeding = overrun.map_or(0, |overrun| overrun.by);
+                let cause = overrun.map_or(0, |overrun| overrun.cause);
+                write!(f, "{verdict} {exceeding} {cause} {displaced}")
+            }
+            Answer::Now(clock) => write!(f, "now {clock}"),
+            Answer::Saved(ticks) => write!(f, "done {ticks}"),
+            Answer::Gone => write!(f, "gone"),
+            Answer::Ended(
+                Ending {
+                    number,
+                    kind,
+                    tick,
+                    by,
+                },
+            ) => write!(f, "ended {number} {kind} {tick} {by}"),
+        }
+    }
 }

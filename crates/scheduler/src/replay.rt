@@ -16,9 +16,9 @@ pub fn replay<S: ReadyStore + Drop, O: Ranking<Item = Mark> + Drop, P: Policy + 
     order: O,
     policy: P,
     calls: &[Call],
-    answers: &mut [Answer],
+    answers: &mut [Result<Answer, Refusal>],
 ) -> Result<Scheduler<S, O, P>, Refusal>
-    ensures { Replayed S.ReadyStore.jobs O.Ranking.may P.Ranking.may P.Policy.spared order policy calls.now answers.old answers.new result }
+    ensures { Replayed S.ReadyStore O.Ranking P.Policy order policy calls.now answers.old answers.new result }
 {
     if answers.len() < calls.len() {
         return Err(Refusal::Short);

@@ -1,2 +1,3 @@
+pub mod Lending
 pub mod Places
 pub mod Tables

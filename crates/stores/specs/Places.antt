@@ -1,10 +1,11 @@
 -- A list of jobs by its places, counted from 0: what reading and changing it answers and leaves.
-use Rattle.std.specs.Prelude.{◌≡◌, ℕ, cond, ◌&&◌, List, length, get_or, Ok, Err, Result, nat_le, nat_lt, slice_index_or, slice_set}
+use Rattle.std.specs.Prelude.{◌≡◌, ℕ, cond, ◌&&◌, List, length, drop, get_or, Ok, Err, Result, nat_le, nat_lt, slice_index_or, slice_set}
 use Rattle.std.specs.List.{insert, remove}
 use Rattle.jobs.specs.declared.job.Job.{Job}
 use Rattle.jobs.specs.declared.refusal.Refusal.{Refusal}
 use Rattle.jobs.specs.declared.refusal.Refusal.TheVariants.{Range, Full}
 use Rattle.jobs.specs.Records.{blank}
+use Rattle.stores.specs.declared.ready.Jobs.{Jobs}
 
 -- the job at a place; a place past the end is refused
 abbrev pub read_at : ℕ → List Job → Result Job Refusal
@@ -27,14 +28,11 @@ set_at i c js =
     let j = get_or js i blank in
     cond (nat_lt i (length js) && (nat_le 1 c && nat_le c j.computation)) (Ok (slice_set js i (with_remaining c j))) (Err Range)
 
-abbrev pub with_by : ℕ → Job → Job
-with_by n j = record { mark = j.mark; computation = j.computation; remaining = j.remaining; by = n }
-
--- the job at a place with another displacer
-abbrev pub name_at : ℕ → ℕ → List Job → Result (List Job) Refusal
-name_at i n js = cond (nat_lt i (length js)) (Ok (slice_set js i (with_by n (slice_index_or js i blank)))) (Err Range)
-
 -- what a call that changes the list answers and leaves; refused, the list is as it was
 abbrev pub Changes : {X : Type 0} → Result (List Job) Refusal → List Job → List Job → Result X Refusal → Type 0
 Changes due was is (Ok x) = due ≡ Ok is
 Changes due was is (Err e) = (due ≡ Err e) × (is ≡ was)
+
+-- the jobs that an iterator over a store has still to give, by what the store means
+abbrev pub jobs_left : {S : Type 0} → (S → List Job) → Jobs S → List Job
+jobs_left jobs it = drop it.place (jobs it.store.now)

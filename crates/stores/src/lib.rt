@@ -1,7 +1,6 @@
 //! Where jobs and endings are kept: tables of 64, and the ready store.
 #![tactic(auto)]
 
-pub mod endings;
 pub mod lookup;
 pub mod ready;
 pub mod row;

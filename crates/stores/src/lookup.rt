@@ -8,10 +8,5 @@ use jobs::numbered::Numbered;
 pub fn has_number<T: Numbered>(records: &[T], number: u16) -> bool
     ensures { result ≡ known T.Numbered.number number records.now }
 {
-    for record in records {
-        if record.number() == number {
-            return true;
-        }
-    }
-    false
+    records.iter().any(|record| record.number() == number)
 }

@@ -1,7 +1,8 @@
 //! The ready store: where a scheduler keeps its ready jobs.
-ghost use Rattle.std.specs.Prelude.{◌≡◌, ◌≤◌, List, [], length, OnErr};
+ghost use Rattle.std.specs.Prelude.{◌≡◌, ◌≤◌, ◌==◌, List, [], length, OnErr};
 ghost use Rattle.jobs.specs.declared.job.Job.{Job};
-ghost use Rattle.stores.specs.Places.{read_at, insert_at, take_at, set_at, Changes};
+ghost use Rattle.stores.specs.Places.{read_at, insert_at, take_at, set_at, jobs_left, Changes};
+ghost use Rattle.std.specs.Iterator.{YieldsFirst, item_count};
 
 use jobs::job::Job;
 use jobs::refusal::Refusal;
@@ -15,6 +16,14 @@ pub trait ReadyStore {
 
     fn len(&self) -> usize
         ensures { result ≡ length (jobs self.now) };
+
+    final fn is_empty(&self) -> bool
+    where
+        Self: Sized,
+        ensures { result ≡ (length (jobs self.now) == 0) }
+    {
+        self.len() == 0
+    }
 
     /// The job at `place`.
     fn read(&self, place: usize) -> Result<Job, Refusal>
@@ -39,4 +48,38 @@ pub trait ReadyStore {
     /// Leaves no job.
     fn clear(&mut self)
         ensures { jobs self.new ≡ [] };
+
+    /// The jobs in their order.
+    final fn iter(&self) -> Jobs<'_, Self>
+    where
+        Self: Sized,
+        ensures { jobs_left jobs result ≡ jobs self.now }
+    {
+        Jobs {
+            store: self,
+            place: 0,
+        }
+    }
+}
+
+/// The jobs of a ready store, one after the other.
+#[derive(Drop)]
+pub struct Jobs<'a, S> {
+    store: &'a S,
+    /// The place of the next one.
+    place: usize,
+}
+
+impl<'a, S: ReadyStore> Iterator for Jobs<'a, S> {
+    type Item = Job;
+
+    ghost next_gives = { YieldsFirst (jobs_left S.ReadyStore.jobs) };
+
+    ghost remaining = { item_count (jobs_left S.ReadyStore.jobs) };
+
+    fn next(&mut self) -> Option<Job> {
+        let job = self.store.read(self.place).ok()?;
+        self.place += 1;
+        Some(job)
+    }
 }

@@ -2,32 +2,25 @@
 use crate::ready::ReadyStore;
 use crate::row::Row;
 use crate::table::JobTable;
-use jobs::job::{Class, Job, Mark};
+use jobs::job::{Job, Mark};
 use rankings::orders::{ByDeadline, ByMark};
 use std::test::Fail;
 
 fn job(number: u16, deadline: u32) -> Job {
-    Job {
-        mark: Mark {
-            number,
-            class: Class::Hard,
-            arrival: 0,
-            deadline,
-            tolerance: 0,
-            value: 0,
-        },
-        computation: 5,
-        remaining: 5,
-        by: 0,
-    }
+    let mark = Mark {
+        number,
+        deadline,
+        ..Mark::default()
+    };
+    Job::new(mark, 5)
 }
 
 #[test]
 fn equal_deadlines_go_by_number(rt: HostRuntime) -> Result<(), Fail> {
     let mut table = JobTable::new();
-    table.insert(&ByMark(ByDeadline), job(9, 20))?;
-    table.insert(&ByMark(ByDeadline), job(3, 20))?;
-    table.insert(&ByMark(ByDeadline), job(5, 10))?;
+    table.insert_by(&ByMark(ByDeadline), job(9, 20))?;
+    table.insert_by(&ByMark(ByDeadline), job(3, 20))?;
+    table.insert_by(&ByMark(ByDeadline), job(5, 10))?;
     let jobs = table.as_slice();
     assert!(rt; jobs.len() == 3);
     assert_eq!(rt; jobs[0].mark.number, 5);

@@ -4,9 +4,8 @@ use Rattle.std.specs.Str.{bytes_eq}
 use Rattle.jobs.specs.declared.job.Class.TheVariants.{Hard}
 use Rattle.jobs.specs.declared.job.Job.{Job}
 use Rattle.words.specs.Bytes.{Piece, lines, words}
-use Rattle.words.specs.Faults.{broken_at, in_line, then}
+use Rattle.words.specs.Faults.{too_long, broken_at, in_line, then}
 use Rattle.words.specs.Readers.{first_number, optional_number, none_left, within}
-use Rattle.words.specs.declared.fault.Cause.TheVariants.{Length}
 use Rattle.words.specs.declared.fault.Fault.{Fault}
 use Rattle.words.specs.declared.fault.WordFault.{WordFault}
 use Rattle.words.specs.declared.words.Number.{Number}
@@ -77,7 +76,7 @@ lines_in n (l ∷ ls) s = then (in_line n (line_in l s)) (lines_in (n + 1) ls)
 abbrev pub table_in : List ℕ → Result Sheet Fault
 table_in bytes =
     cond (nat_lt 65536 (length bytes))
-    (Err (record { cause = Length; line = 0; place = 0 }))
+    (Err too_long)
     (then (lines_in 1 (lines bytes) unread) (λ s. Ok s.sheet))
 
 -- what taking a line answers and leaves; refused, all is as it was

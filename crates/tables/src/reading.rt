@@ -5,11 +5,9 @@ ghost use Rattle.tables.specs.Format.{drafted, start_in, tolerance_in, job_in, T
 
 use crate::table::Table;
 use jobs::job::{Class, Job, Mark};
-use jobs::ranges::{MAX_COMPUTATION, MAX_NUMBER, MAX_TOLERANCE};
-use words::{Cause, Fault, Lines, Number, WordFault, Words, numbered, placed};
-
-/// The longest input that is read, in bytes.
-pub const MAX_INPUT: usize = 65_536;
+use jobs::ranges::{COMPUTATIONS, NUMBERS, TOLERANCES};
+pub use words::MAX_INPUT;
+use words::{Fault, Lines, Number, WordFault, Words, accepted, numbered, placed};
 
 /// A table as it is read.
 #[derive(Drop)]
@@ -23,19 +21,14 @@ struct Draft {
 fn read_start(words: &mut Words<'_>) -> Result<u32, WordFault>
     ensures { result ≡ start_in (past_end words.old) (words_left words.old) }
 {
-    let tick = words.number()?;
-    words.end()?;
-    Ok(tick.value)
+    Ok(words.only_number()?.value)
 }
 
 /// The tolerance of a job, 0 if it is left out.
 fn tolerance_of(word: Option<Number>) -> Result<u32, WordFault>
     ensures { result ≡ tolerance_in word }
 {
-    match word {
-        Some(number) => number.within(0, MAX_TOLERANCE),
-        None => Ok(0),
-    }
+    word.map_or(Ok(0), |number| number.within(TOLERANCES))
 }
 
 /// The job of a line. The words are read first, then their ranges are held.
@@ -47,22 +40,18 @@ fn read_job(start: u32, words: &mut Words<'_>) -> Result<Job, WordFault>
     let deadline = words.number()?;
     let tolerance = words.optional_number()?;
     words.end()?;
-    let number = number.within(1, u32::from(MAX_NUMBER))?;
-    let remaining = remaining.within(1, MAX_COMPUTATION)?;
+    let number = number.within(NUMBERS)?;
+    let remaining = remaining.within(COMPUTATIONS)?;
     let tolerance = tolerance_of(tolerance)?;
-    Ok(Job {
-        mark: Mark {
-            number: number as u16,
-            class: Class::Hard,
-            arrival: start,
-            deadline: deadline.value,
-            tolerance,
-            value: 0,
-        },
-        computation: remaining,
-        remaining,
-        by: 0,
-    })
+    let mark = Mark {
+        number: number as u16,
+        class: Class::Hard,
+        arrival: start,
+        deadline: deadline.value,
+        tolerance,
+        value: 0,
+    };
+    Ok(Job::new(mark, remaining))
 }
 
 impl Draft {
@@ -87,23 +76,16 @@ impl Draft {
 }
 
 /// Reads a table from the bytes of an input, or says what is wrong first, and where.
+#[tactic(auto, using(words::proofs::Lining::lines_few))]
 pub fn read(input: &[u8]) -> Result<Table, Fault>
     ensures { Read input.now result }
 {
-    if input.len() > MAX_INPUT {
-        return Err(Fault {
-            cause: Cause::Length,
-            line: 0,
-            place: 0,
-        });
-    }
+    let input = accepted(input)?;
     let mut draft = Draft {
         begun: false,
         table: Table::new(),
     };
-    let mut number = 0;
-    for line in Lines::new(input) {
-        number += 1;
+    for (line, number) in Lines::new(input).zip(1..) {
         numbered(draft.take_line(line), number)?;
     }
     Ok(draft.table)

@@ -32,7 +32,6 @@ impl Table {
         if self.jobs.knows(job.mark.number) {
             return Err(Refusal::Known);
         }
-        self.jobs.insert(&ByMark(ByDeadline), job)?;
-        Ok(())
+        self.jobs.insert_by(&ByMark(ByDeadline), job)
     }
 }

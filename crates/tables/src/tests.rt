@@ -1,6 +1,6 @@
 //! Tables and their answers.
 use crate::report::reply;
-use std::fmt;
+use std::alloc::AllocError;
 use std::process::Abort;
 use std::test::Fail;
 
@@ -46,10 +46,10 @@ fn faults_of_a_table(rt: HostRuntime) -> Result<(), Fail> {
 }
 
 /// A table of jobs numbered 1 to `count`.
-fn many(rt: &HostRuntime, count: u16) -> Result<String, fmt::Error> {
+fn many(rt: &HostRuntime, count: u16) -> Result<String, AllocError> {
     let mut table = String::new(rt.alloc());
-    for number in 0..count {
-        writeln!(table, "{} 1 99", number.saturating_add(1))?;
+    for number in 1..=count {
+        writeln!(table, "{number} 1 99")?;
     }
     Ok(table)
 }

@@ -1,15 +1,12 @@
 -- What a walk counts is what the list's finishing times say.
-use Rattle.std.proofs.Common.{◌≡◌, ℕ, ◌+◌, ◌<◌, ◌≤◌, max, cond, eqb, ltb, leb, List, [], ◌∷◌, length, get_or, drop, pos, ◌+ℤ◌, ◌≤ℤ◌, Ok, Err, Decides, Result, sym, refl, ap, ◌∙◌, arith}
-use Rattle.std.proofs.lemmas.List.{at_drop_more, at_drop_all}
+use Rattle.std.proofs.Common.{◌≡◌, ℕ, ◌+◌, ◌≤◌, max, cond, eqb, ltb, leb, List, [], ◌∷◌, pos, ◌+ℤ◌, ◌≤ℤ◌, Decides, refl, ap, ◌∙◌, arith}
 use Rattle.std.proofs.lemmas.Int.{ints}
 use Rattle.std.proofs.lemmas.Bool.{leb-true, le-leb}
 use Rattle.std.proofs.lemmas.Bool.Decides.{nat_tests, Decides-and, Decides-at}
-use Rattle.timing.specs.declared.entry.Entry.{Entry}
 use Rattle.jobs.specs.declared.job.Job.{Job}
-use Rattle.jobs.specs.declared.refusal.Refusal.{Refusal}
 use Rattle.jobs.specs.Records.{limit, residual, excess}
-use Rattle.timing.specs.Tallies.{Tally, fresh, counted, counted_all, Step, Walked}
-use Rattle.timing.specs.Timing.{finish, holds, exceeding, first_by, AllInTime, entry}
+use Rattle.timing.specs.Tallies.{Tally, fresh, counted, counted_all, Walked}
+use Rattle.timing.specs.Timing.{finish, holds, exceeding, first_by, AllInTime}
 
 -- the tick at which the next job begins
 abbrev from : Tally → ℕ
@@ -35,19 +32,6 @@ counted_cause w (j ∷ js) =
     let ih = counted_cause (counted w j) js ∙ ap (λ t. cond (ltb (counted w j).exceeding (exceeding t js)) (first_by (exceeding t js) t js) (counted w j).cause) (counted_from w j) in
     let here : excess (w.start + (w.sum + j.remaining)) j ≡ excess (from w + j.remaining) j = ap (λ t. excess t j) (counted_from w j) in
     grind (arith, nat_tests)
-
--- a step that is not refused
-pub step_ok : (was : Tally) (j : Job) (is : Tally) (r : Result Entry Refusal) (e : Entry) → Step was j is r → r ≡ Ok e → (is ≡ counted was j) × (e ≡ entry was.start (was.sum + j.remaining) j)
-step_ok was j is (Ok x) e h same = let back : x ≡ e = cc in (h.1, sym back ∙ h.2)
-step_ok was j is (Err x) e h same = let no_way : ◌≡◌ {A = ℕ} 0 1 = cc in absurd (omega arith)
-
--- a walk that has come to the place i, and goes on
-pub counted_more : (js : List Job) (i : ℕ) (d : Job) (was is whole : Tally) → i < length js → is ≡ counted was (get_or js i d) → counted_all was (drop i js) ≡ whole → counted_all is (drop (i + 1) js) ≡ whole
-counted_more js i d was is whole within step h =
-    ap (λ w. counted_all w (drop (i + 1) js)) step ∙ sym (at_drop_more (counted_all was) js i d within) ∙ h
-
-pub counted_last : (js : List Job) (i : ℕ) (w whole : Tally) → length js ≤ i → counted_all w (drop i js) ≡ whole → w ≡ whole
-counted_last js i w whole past h = sym (at_drop_all (counted_all w) js i past) ∙ h
 
 holds_exceeding : (t : ℕ) (js : List Job) → eqb (exceeding t js) 0 ≡ holds t js
 holds_exceeding t [] = refl

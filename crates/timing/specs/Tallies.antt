@@ -1,12 +1,11 @@
 -- A walk through a list of jobs, and what it has counted so far.
-use Rattle.std.specs.Prelude.{◌≡◌, ℕ, ◌+◌, ◌<◌, ◌≤◌, cond, List, [], ◌∷◌, ◌++◌, length, drop, Some, None, Ok, Err, Decides, Option, Result, ◌==◌, nat_eq, nat_lt}
+use Rattle.std.specs.Prelude.{◌≡◌, ℕ, ◌+◌, ◌<◌, ◌≤◌, cond, List, [], ◌∷◌, length, Ok, Err, Decides, Result, ◌==◌, nat_eq, nat_lt}
 use Rattle.jobs.specs.declared.job.Job.{Job}
 use Rattle.jobs.specs.declared.refusal.Refusal.{Refusal}
-use Rattle.jobs.specs.declared.refusal.Refusal.TheVariants.{Full, Short}
+use Rattle.jobs.specs.declared.refusal.Refusal.TheVariants.{Full}
 use Rattle.timing.specs.declared.entry.Entry.{Entry}
-use Rattle.timing.specs.declared.timeline.Timeline.{Timeline}
 use Rattle.jobs.specs.Records.{number, excess}
-use Rattle.timing.specs.Timing.{finish, holds, exceeding, cause, AllInTime, entry, entries}
+use Rattle.timing.specs.Timing.{finish, holds, exceeding, cause, AllInTime, entry}
 
 pub record Tally : Type 0 where
   pub start : ℕ
@@ -16,9 +15,6 @@ pub record Tally : Type 0 where
   -- the greatest excess, and the first job that has it
   pub exceeding : ℕ
   pub cause : ℕ
-
-abbrev pub tally : Timeline → Tally
-tally w = record { start = w.start; jobs = w.jobs; sum = w.sum; exceeding = w.exceeding; cause = w.cause }
 
 -- a walk that starts at the tick t
 abbrev pub fresh : ℕ → Tally
@@ -56,15 +52,6 @@ pub record Walked (t : ℕ) (js : List Job) (w : Tally) : Type 0 where
   pub in_time : Decides (w.exceeding == 0) (AllInTime t js)
 
 -- the walk through a list or, exactly where it has more than 64 jobs, the refusal
-abbrev pub Walk : ℕ → List Job → Result Timeline Refusal → Type 0
-Walk t js (Ok w) = (length js ≤ 64) × Walked t js (tally w)
+abbrev pub Walk : ℕ → List Job → Result Tally Refusal → Type 0
+Walk t js (Ok w) = (length js ≤ 64) × Walked t js w
 Walk t js (Err e) = (e ≡ Full) × (64 < length js)
-
--- a list of more than 64 jobs is refused a profile, then a table shorter than the list
-abbrev pub profile_refusal : List Job → List Entry → Option Refusal
-profile_refusal js table = cond (nat_lt 64 (length js)) (Some Full) (cond (nat_lt (length table) (length js)) (Some Short) None)
-
--- a profile: an entry for each job in the front of the table, whose other entries stay, and their count; refused, the table stays
-abbrev pub Profile : ℕ → List Job → List Entry → List Entry → Result ℕ Refusal → Type 0
-Profile t js old new (Ok n) = (profile_refusal js old ≡ None) × (n ≡ length js) × (new ≡ entries t 0 js ++ drop (length js) old)
-Profile t js old new (Err e) = (profile_refusal js old ≡ Some e) × (new ≡ old)

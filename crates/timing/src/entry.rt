@@ -5,7 +5,7 @@ ghost use Rattle.timing.specs.Written.{entry_text};
 use std::fmt;
 
 /// One job of a list: when it finishes, what it leaves to its deadline, and its load.
-#[derive(Clone, Copy, PartialEq, Eq, Debug)]
+#[derive(Clone, Copy, Default, PartialEq, Eq, Debug)]
 pub struct Entry {
     pub number: u16,
     pub finish: u64,
@@ -20,10 +20,13 @@ impl fmt::Display for Entry {
     ghost output = { λ e. Some (entry_text e) };
 
     fn fmt<W: fmt::Write>(&self, f: &mut fmt::Formatter<W>) -> fmt::Result {
-        let number = self.number;
-        let finish = self.finish;
-        let residual = self.residual;
-        match self.load {
+        let Entry {
+            number,
+            finish,
+            residual,
+            load,
+        } = *self;
+        match load {
             Some((sum, span)) => write!(f, "job {number} {finish} {residual} {sum} {span}"),
             None => write!(f, "job {number} {finish} {residual} - -"),
         }

@@ -2,6 +2,7 @@
 #![tactic(auto)]
 
 pub mod entry;
+pub mod overrun;
 #[cfg(test)]
 mod tests;
 pub mod timeline;

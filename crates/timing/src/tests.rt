@@ -1,22 +1,16 @@
 //! Examples of the published method, and the edges of a list.
 use crate::timeline::Timeline;
-use jobs::job::{Class, Job, Mark};
+use jobs::job::{Job, Mark};
 use std::test::Fail;
 
 fn job(number: u16, remaining: u32, deadline: u32, tolerance: u32) -> Job {
-    Job {
-        mark: Mark {
-            number,
-            class: Class::Hard,
-            arrival: 0,
-            deadline,
-            tolerance,
-            value: 0,
-        },
-        computation: remaining,
-        remaining,
-        by: 0,
-    }
+    let mark = Mark {
+        number,
+        deadline,
+        tolerance,
+        ..Mark::default()
+    };
+    Job::new(mark, remaining)
 }
 
 fn drill(first_tolerance: u32, second_tolerance: u32) -> [Job; 4] {
@@ -31,13 +25,11 @@ fn drill(first_tolerance: u32, second_tolerance: u32) -> [Job; 4] {
 #[test]
 fn a_list_that_is_late(rt: HostRuntime) -> Result<(), Fail> {
     let mut walk = Timeline::new(7);
-    let jobs = drill(0, 0);
-    let finishes = [11, 18, 22, 27];
-    let residuals = [1, -2, -1, 1];
-    for i in 0..4 {
-        let entry = walk.add(&jobs[i])?;
-        assert_eq!(rt; entry.finish, finishes[i]);
-        assert_eq!(rt; entry.residual, residuals[i]);
+    let due = [(11, 1), (18, -2), (22, -1), (27, 1)];
+    for (job, (finish, residual)) in drill(0, 0).iter().zip(due.iter()) {
+        let entry = walk.add(job)?;
+        assert_eq!(rt; entry.finish, *finish);
+        assert_eq!(rt; entry.residual, *residual);
     }
     assert_eq!(rt; walk.exceeding(), 2);
     assert_eq!(rt; walk.cause(), 11);

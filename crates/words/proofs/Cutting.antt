@@ -1,16 +1,11 @@
--- The bytes before the first that ends a piece: a step towards it, and what is cut off there.
-use Rattle.std.proofs.Common.{◌≡◌, ℕ, ◌+◌, ◌<◌, eqb, List, [], ◌∷◌, length, get_or, take, drop, refl, ap, inl, inr}
-use Rattle.std.proofs.lemmas.List.{drop_more}
-use Rattle.std.proofs.lemmas.Bool.{eq-eqb, ne_eqb, cases_Bool}
+-- The bytes before the first that ends a piece, as a slice.
+use Rattle.std.proofs.Common.{◌≡◌, ◌≢◌, ◌<◌, ◌≤◌, ℕ, zero, suc, get_or, List, [], ◌∷◌, length, take, refl, ap, arith}
+use Rattle.std.proofs.lemmas.Bool.{eq-eqb, ne_eqb}
 use Rattle.words.specs.Bytes.{before}
 
-pub before_stops : (stop : ℕ) (bs : List ℕ) (i : ℕ) → i < length bs → get_or bs i 0 ≡ stop → before stop (drop i bs) ≡ []
-before_stops stop bs i inside e = simp (drop_more bs i 0 inside, eq-eqb (get_or bs i 0) stop e)
-
-pub before_more : (stop : ℕ) (bs : List ℕ) (i : ℕ) → i < length bs → (get_or bs i 0 ≡ stop → ⊥) → before stop (drop i bs) ≡ get_or bs i 0 ∷ before stop (drop (i + 1) bs)
-before_more stop bs i inside ne = simp (drop_more bs i 0 inside, ne_eqb (get_or bs i 0) stop ne)
-
-pub take_before : (stop : ℕ) (bs : List ℕ) → take (length (before stop bs)) bs ≡ before stop bs
-take_before stop [] = refl
-take_before stop (b ∷ bs) =
-    elim (cases_Bool (eqb b stop)) [ inl e ↦ simp e | inr e ↦ simp e (ap (λ l. b ∷ l) (take_before stop bs)) ]
+-- the first n bytes, where none of them is `stop` and the next one is, if there is one
+pub cut_before : (stop : ℕ) (bs : List ℕ) (n : ℕ) → n ≤ length bs → ((k : ℕ) → k < n → get_or bs k 0 ≢ stop) → (n < length bs → get_or bs n 0 ≡ stop) → take n bs ≡ before stop bs
+cut_before stop [] n within none found = let empty : n ≡ 0 = omega arith in rw empty refl
+cut_before stop (b ∷ bs) zero within none found = simp (eq-eqb b stop (found (omega arith)))
+cut_before stop (b ∷ bs) (suc n) within none found =
+    simp (ne_eqb b stop (none 0 (omega arith))) (ap (λ l. b ∷ l) (cut_before stop bs n (omega arith) (λ k below. none (suc k) (omega arith)) (λ inside. found (omega arith))))

@@ -1,15 +1,32 @@
 -- The words of a line: a space is passed, and a word is cut off up to the next space.
-use Rattle.std.proofs.Common.{◌≡◌, ℕ, ◌+◌, ◌-◌, ◌<◌, ◌≤◌, false, eqb, List, [], ◌∷◌, length, get_or, take, drop, sym, refl, ap, ◌∙◌, subst, inl, inr, add-zero, arith}
+use Rattle.std.proofs.Common.{◌≡◌, ℕ, zero, suc, ◌+◌, ◌-◌, ◌<◌, ◌≤◌, false, eqb, List, [], ◌∷◌, length, get_or, take, drop, Some, None, Option, MatchOption, ◌≢◌, sym, refl, ap, ◌∙◌, subst, inl, inr, add-zero, add-one, arith}
 use Rattle.std.proofs.lemmas.List.{drop_all, drop_more, drop-drop, take_rest}
-use Rattle.std.proofs.lemmas.Bool.{eq-eqb, ne_eqb, cases_Bool}
-use Rattle.words.proofs.Cutting.{take_before}
+use Rattle.std.proofs.lemmas.Bool.{eq-eqb, ne_eqb, cases_Bool, cases_lt}
 use Rattle.words.specs.Bytes.{before, Piece, words, words_from}
 
-pub no_words_left : (p : ℕ) (bs : List ℕ) (i : ℕ) → length bs ≤ i → words p (drop i bs) ≡ []
+no_words_left : (p : ℕ) (bs : List ℕ) (i : ℕ) → length bs ≤ i → words p (drop i bs) ≡ []
 no_words_left p bs i past = ap (words p) (drop_all i bs past)
 
-pub space_passed : (p : ℕ) (bs : List ℕ) (i : ℕ) → i < length bs → get_or bs i 0 ≡ 32 → words p (drop i bs) ≡ words (p + 1) (drop (i + 1) bs)
+space_passed : (p : ℕ) (bs : List ℕ) (i : ℕ) → i < length bs → get_or bs i 0 ≡ 32 → words p (drop i bs) ≡ words (p + 1) (drop (i + 1) bs)
 space_passed p bs i inside e = simp (drop_more bs i 0 inside, eq-eqb (get_or bs i 0) 32 e)
+
+-- what is read as a word is the same from `start` and from `end`, if only spaces stand between them
+spaces_passed : (bs : List ℕ) (start end : ℕ) → start ≤ end → end ≤ length bs → ((k : ℕ) → start ≤ k → k < end → get_or bs k 0 ≡ 32) → words (start + 1) (drop start bs) ≡ words (end + 1) (drop end bs)
+spaces_passed bs start zero under inside spaces = let e : start ≡ 0 = omega arith in rw e refl
+spaces_passed bs start (suc end) under inside spaces =
+    elim (cases_lt end start) [
+      | inl over ↦ let e : start ≡ suc end = omega arith in rw e refl
+      | inr more ↦ simp add-one (simp add-one at (spaces_passed bs start end more (omega arith) (λ k from to. spaces k from (omega arith)) ∙ space_passed (end + 1) bs end (omega arith) (spaces end more (omega arith))))
+    ]
+
+-- what a search for a byte that is no space comes to, from `start` on
+pub spaces_found : (bs : List ℕ) (start : ℕ) (found : Option ℕ) → MatchOption found ((k : ℕ) → start ≤ k → k < length bs → get_or bs k 0 ≡ 32) (λ i. (start ≤ i) × (i < length bs) × (get_or bs i 0 ≢ 32) × ((k : ℕ) → start ≤ k → k < i → get_or bs k 0 ≡ 32)) → MatchOption found (words (start + 1) (drop start bs) ≡ []) (λ i. words (start + 1) (drop start bs) ≡ words (i + 1) (drop i bs))
+spaces_found bs start None spaces =
+    elim (cases_lt (length bs) start) [
+      | inl over ↦ no_words_left (start + 1) bs start (omega arith)
+      | inr more ↦ spaces_passed bs start (length bs) more (omega arith) spaces ∙ no_words_left (length bs + 1) bs (length bs) (omega arith)
+    ]
+spaces_found bs start (Some i) at = spaces_passed bs start i at.0 (omega arith) at.3
 
 -- a word under way ends at the next space
 word_ends : (p : ℕ) (bs : List ℕ) → words_from false p bs ≡ words (p + length (before 32 bs)) (drop (length (before 32 bs)) bs)
@@ -36,11 +53,9 @@ word_cut p bs i inside ne =
     rw (← drop-drop (length (before 32 (drop i bs))) i bs)
     (subst (Begins p) (sym (drop_more bs i 0 inside)) (word_begins p (get_or bs i 0) (drop (i + 1) bs) (ne_eqb (get_or bs i 0) 32 ne)))
 
--- what `text_at` reads: the word goes on for `len` bytes
-pub word_read : (line : List ℕ) (start len : ℕ) → start < length line → (get_or line start 0 ≡ 32 → ⊥) → len ≡ length (before 32 (take (length line - start) (drop start line))) → words (start + 1) (drop start line) ≡ record { text = take len (take (length line - start) (drop start line)); place = start + 1 } ∷ words (start + len + 1) (drop (start + len) line)
-word_read line start len inside ne e =
-    let whole = take_rest line start in
-    let same : len ≡ length (before 32 (drop start line)) = e ∙ ap (λ bs. length (before 32 bs)) whole in
-    let cut : take len (take (length line - start) (drop start line)) ≡ before 32 (drop start line) = (λ i. take (same i) (whole i)) ∙ take_before 32 (drop start line) in
-    let next : start + 1 + length (before 32 (drop start line)) ≡ start + len + 1 = omega arith in
-    word_cut (start + 1) line start inside ne ∙ (λ i. record { text = sym cut i; place = start + 1 } ∷ words (next i) (drop (start + sym same i) line))
+-- the word that begins at `start`
+pub word_read : (line text : List ℕ) (start : ℕ) → start < length line → (get_or line start 0 ≡ 32 → ⊥) → text ≡ before 32 (take (length line - start) (drop start line)) → words (start + 1) (drop start line) ≡ record { text = text; place = start + 1 } ∷ words (start + length text + 1) (drop (start + length text) line)
+word_read line text start inside ne e =
+    let same : text ≡ before 32 (drop start line) = e ∙ ap (before 32) (take_rest line start) in
+    let next : start + 1 + length (before 32 (drop start line)) ≡ start + length (before 32 (drop start line)) + 1 = omega arith in
+    rw same (word_cut (start + 1) line start inside ne ∙ ap (λ q. record { text = before 32 (drop start line); place = start + 1 } ∷ words q (drop (start + length (before 32 (drop start line))) line)) next)

@@ -27,6 +27,10 @@ cause_name (Rule refusal) = refusal_name refusal
 abbrev pub fault_in : ℕ → WordFault → Fault
 fault_in n f = record { cause = f.cause; line = n; place = f.place }
 
+-- the fault of an input of more than 65,536 bytes
+abbrev pub too_long : Fault
+too_long = record { cause = Length; line = 0; place = 0 }
+
 -- refused NUMBER NAME LINE PLACE
 abbrev pub fault_text : Fault → List ℕ
 fault_text f =

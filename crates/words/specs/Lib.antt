@@ -1,3 +1,4 @@
 pub mod Bytes
 pub mod Faults
 pub mod Readers
+pub mod Texts

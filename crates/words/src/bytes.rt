@@ -2,20 +2,18 @@
 ghost use Rattle.std.specs.Prelude.{◌≡◌, ◌<◌, ◌≤◌, length, IfSome};
 ghost use Rattle.words.specs.Bytes.{before, number_in};
 
-/// How many bytes stand before the first `stop`: all of them, if there is none.
-pub fn length_before(bytes: &[u8], stop: u8) -> usize
-    ensures value { result ≡ length (before stop bytes.now) }
-    ensures within { result ≤ length bytes.now }
+/// The bytes before the first `stop`: all of them, if there is none.
+#[tactic(auto, using(crate::proofs::Cutting::cut_before))]
+pub fn before(bytes: &[u8], stop: u8) -> &[u8]
+    ensures value { result.now ≡ before stop bytes.now }
+    ensures within { length result.now ≤ length bytes.now }
 {
-    for (i, b) in bytes.iter().enumerate() {
-        if *b == stop {
-            return i;
-        }
-    }
-    bytes.len()
+    let end = bytes.iter().position(|b| *b == stop).unwrap_or(bytes.len());
+    &bytes[..end]
 }
 
 /// The number that the bytes write in decimal, if they are one to nine digits.
+#[tactic(auto, using(crate::proofs::Figures::power_few))]
 pub fn number(bytes: &[u8]) -> Option<u32>
     ensures value { result ≡ number_in bytes.now }
     ensures small { IfSome result (λ n. n < 1000000000) }
@@ -25,10 +23,7 @@ pub fn number(bytes: &[u8]) -> Option<u32>
     }
     let mut value = 0;
     for b in bytes {
-        if !b.is_ascii_digit() {
-            return None;
-        }
-        value = value * 10 + u32::from(*b - b'0');
+        value = value * 10 + char::from(*b).to_digit(10)?;
     }
     Some(value)
 }

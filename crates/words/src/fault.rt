@@ -1,5 +1,6 @@
 //! Why a line is refused, and where.
 ghost use Rattle.std.specs.Prelude.{◌≡◌, Some};
+ghost use Rattle.words.specs.declared.fault.Cause.TheVariants.{Rule};
 ghost use Rattle.words.specs.Faults.{cause_number, cause_name, fault_in, broken_at, in_line, fault_text};
 
 use jobs::refusal::Refusal;
@@ -23,6 +24,15 @@ pub enum Cause {
 }
 
 impl Cause {
+    ghost use Rattle.words.specs.Readers.{fault_at};
+
+    /// The cause as a fault of the word at this place.
+    pub fn at(self, place: usize) -> WordFault
+        ensures { result ≡ fault_at place self }
+    {
+        WordFault { cause: self, place }
+    }
+
     pub fn number(self) -> u8
         ensures { result ≡ cause_number self }
     {
@@ -47,6 +57,23 @@ impl Cause {
             Cause::Length => "length",
             Cause::Rule(refusal) => refusal.name(),
         }
+    }
+}
+
+impl From<Refusal> for Cause {
+    ghost from_gives = { λ refusal c. c ≡ Rule refusal };
+
+    fn from(refusal: Refusal) -> Cause {
+        Cause::Rule(refusal)
+    }
+}
+
+/// A cause is written by its name.
+impl fmt::Display for Cause {
+    ghost output = { λ c. Some (cause_name c) };
+
+    fn fmt<W: fmt::Write>(&self, f: &mut fmt::Formatter<W>) -> fmt::Result {
+        f.write_str(self.name())
     }
 }
 
@@ -82,23 +109,14 @@ impl WordFault {
 pub fn placed<T>(answer: Result<T, Refusal>, place: usize) -> Result<T, WordFault>
     ensures { result ≡ broken_at place answer }
 {
-    match answer {
-        Ok(value) => Ok(value),
-        Err(refusal) => Err(WordFault {
-            cause: Cause::Rule(refusal),
-            place,
-        }),
-    }
+    answer.map_err(|refusal| Cause::from(refusal).at(place))
 }
 
 /// What a line answers, its faults with the number of the line.
 pub fn numbered<T>(answer: Result<T, WordFault>, line: usize) -> Result<T, Fault>
     ensures { result ≡ in_line line answer }
 {
-    match answer {
-        Ok(value) => Ok(value),
-        Err(fault) => Err(fault.in_line(line)),
-    }
+    answer.map_err(|fault| fault.in_line(line))
 }
 
 /// A fault is written as `refused NUMBER NAME LINE PLACE`.
@@ -106,10 +124,8 @@ impl fmt::Display for Fault {
     ghost output = { λ f. Some (fault_text f) };
 
     fn fmt<W: fmt::Write>(&self, f: &mut fmt::Formatter<W>) -> fmt::Result {
-        let number = self.cause.number();
-        let name = self.cause.name();
-        let line = self.line;
-        let place = self.place;
-        write!(f, "refused {number} {name} {line} {place}")
+        let Fault { cause, line, place } = *self;
+        let number = cause.number();
+        write!(f, "refused {number} {cause} {line} {place}")
     }
 }

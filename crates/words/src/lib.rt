@@ -9,5 +9,5 @@ mod tests;
 mod words;
 
 pub use fault::{Cause, Fault, WordFault, numbered, placed};
-pub use lines::Lines;
+pub use lines::{Lines, MAX_INPUT, accepted};
 pub use words::{Number, Word, Words};

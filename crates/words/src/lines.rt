@@ -1,17 +1,32 @@
 //! The lines of an input, one after another.
 ghost use Rattle.std.specs.Prelude.{◌≡◌, [], ◌∷◌, length, MatchOption};
 ghost use Rattle.words.specs.Bytes.{lines};
-ghost use Rattle.words.specs.Readers.{lines_in, lines_left};
+ghost use Rattle.words.specs.Readers.{lines_in, lines_left, Accepted};
 ghost use Rattle.std.specs.Iterator.{at_most};
 
-use crate::bytes::length_before;
+use crate::bytes::before;
+use crate::fault::{Cause, Fault};
 
 /// The first line, and what comes after the newline that ends it.
+#[tactic(auto, using(crate::proofs::Lining::line_read))]
 fn split_line(input: &[u8]) -> (&[u8], Option<&[u8]>)
     ensures { lines input.now ≡ result.0.now ∷ lines_in result.1 }
 {
-    let end = length_before(input, b'\n');
-    (&input[..end], input.get(end + 1..))
+    let line = before(input, b'\n');
+    (line, input.get(line.len() + 1..))
+}
+
+/// The longest input that is read, in bytes.
+pub const MAX_INPUT: usize = 65_536;
+
+/// The input, unless it is too long to be read. That is a fault at no line and no place.
+pub fn accepted(input: &[u8]) -> Result<&[u8], Fault>
+    ensures { Accepted input.now result }
+{
+    if input.len() > MAX_INPUT {
+        return Err(Cause::Length.at(0).in_line(0));
+    }
+    Ok(input)
 }
 
 /// Reads an input line by line. An input that is empty, or ends with a newline, has a last line that is empty.

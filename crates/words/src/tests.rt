@@ -1,5 +1,6 @@
 //! What the readers make of a few lines.
 use crate::*;
+use jobs::ranges::{Bounds, NUMBERS};
 use jobs::refusal::Refusal;
 use std::process::Abort;
 use std::test::Fail;
@@ -37,10 +38,14 @@ fn a_number_has_nine_digits_at_most(rt: HostRuntime) -> Result<(), Fail> {
     let mut words = Words::new(b"999999999 000000000 0000000001");
     let most = words.number().ok().ok_or("no number")?;
     assert_eq!(rt; most.value, 999_999_999);
-    assert!(rt; most.within(0, 999_999_999).is_ok());
-    refused(&rt, most.within(1, 65_535), 1, 1)?;
+    let all = Bounds {
+        least: 0,
+        most: 999_999_999,
+    };
+    assert!(rt; most.within(all).is_ok());
+    refused(&rt, most.within(NUMBERS), 1, 1)?;
     let none = words.number().ok().ok_or("no number")?;
-    refused(&rt, none.within(1, 65_535), 1, 11)?;
+    refused(&rt, none.within(NUMBERS), 1, 11)?;
     refused(&rt, words.optional_number(), 23, 21)
 }
 

@@ -1,16 +1,16 @@
-use Rattle.std.proofs.Common.{◌<◌, length, ap, ◌∙◌, arith}
-use Rattle.jobs.specs.Records.{number}
-use Rattle.admission.proofs.Reading.{read_job}
-use Rattle.admission.proofs.Seeking.{sought_more, sought_all}
+use Rattle.std.proofs.Common.{◌≡◌, rules}
+use Rattle.std.specs.List.{position}
+use borrow.Author.Tests.{tests}
+use Rattle.std.proofs.lemmas.Iterator.Consumers.{YieldsList-from_first}
+use Rattle.std.proofs.lemmas.Iterator.Search.{position_from_yields_List}
+use Rattle.rules.specs.States.{has}
+use Rattle.stores.specs.Places.{jobs_left}
+use Rattle.admission.proofs.Seeking.{found}
 use Rattle.admission.proofs.closing.find.Goals as goal
 
-pub loop-place-preserved : goal.loop-place-preserved
-loop-place-preserved g c =
-    let js = g.S.ReadyStore.jobs c.args.list.now in
-    let i = c.loop-place.place in
-    let within : i < length js = omega arith in
-    let is = read_job i js within c.in-Ok.job c.in-Ok.ensures in
-    sought_more c.args.number js i c.loop-place.invariant within (λ e. c.if-job-number.false (ap number is ∙ e))
-
 pub returns : goal.returns
-returns g c = sought_all c.args.number (g.S.ReadyStore.jobs c.args.list.now) c.loop-place.place c.loop-place.invariant (omega arith)
+returns g c =
+    let n = c.args.number in
+    let jobs = g.S.ReadyStore.jobs in
+    let first : c.position.result ≡ position (has n) (jobs c.args.list.now) = position_from_yields_List (has n) c.position.new.self _ c.position.result c.position.ensures.ran (YieldsList-from_first (λ x. x) (jobs_left jobs) _ c.iter.ensures) (λ x b q k. search (rules, tests)) in
+    found n _ _ first

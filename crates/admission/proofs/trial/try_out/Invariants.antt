@@ -1,14 +1,15 @@
-use Rattle.std.proofs.Common.{◌≡◌, drop}
 use Rattle.jobs.specs.Records.{number}
 use Rattle.rankings.specs.Ranked.{before}
 use Rattle.rankings.specs.Rankings.{by_mark}
-use Rattle.rules.specs.Giving.{without}
+use Rattle.stores.specs.Places.{jobs_left}
 use Rattle.admission.specs.Trials.{turn}
-use Rattle.admission.proofs.Trying.{begun, run}
+use Rattle.admission.proofs.Trying.{Under}
 use Rattle.admission.proofs.trial.try_out.Given as goal
 
-abbrev pub invariant-loop-at : goal.invariant-loop-at
-invariant-loop-at g l =
+abbrev pub invariant-loop-other : goal.invariant-loop-other
+invariant-loop-other g l =
     let first = before (by_mark (g.O.Ranking.may l.order.0)) number in
-    let rs = g.S.ReadyStore.jobs l.ready in
-    run first l.job (turn l.walk) (without l.absent (drop l.at rs)) ≡ run first l.job (begun l.tick) (without l.absent rs)
+    let jobs = g.S.ReadyStore.jobs in
+    (goal.iterator-loop-other g).can_next l.other-iterator
+    × (goal.iterator-loop-other g).is_finite l.other-iterator
+    × Under first l.job l.tick l.absent (jobs l.ready) (turn l.walk) (jobs_left jobs l.other-iterator)

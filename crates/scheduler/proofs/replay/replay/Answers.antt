@@ -1,45 +1,46 @@
-use Rattle.std.proofs.Common.{◌≡◌, map, length, get_or, take, drop, sym, refl, ap, ◌∙◌, subst, arith}
+use Rattle.std.proofs.Common.{◌≡◌, map, length, get_or, take, drop, sym, ap, ◌∙◌, subst, arith}
 use Rattle.rules.specs.Calls.{serve}
 use Rattle.rules.specs.Ranges.{InRange}
 use Rattle.rules.specs.Worked.{answers_of}
-use Rattle.rules.specs.States.{start, answers}
+use Rattle.rules.specs.States.{LawfulParts, start, answers}
 use Rattle.admission.proofs.Lawful.{lawful_parts}
-use Rattle.admission.specs.Disciplines.{parts}
+use Rattle.admission.specs.Disciplines.{policy_of, parts}
+use Rattle.admission.specs.declared.discipline.Discipline.{Discipline}
 use Rattle.scheduler.specs.Calling.{asked_call, answered}
 use Rattle.scheduler.specs.Keeping.{view}
 use Rattle.scheduler.specs.declared.calls.Call.{Call}
 use Rattle.scheduler.specs.declared.calls.Call.TheVariants.{Arrive}
-use Rattle.scheduler.proofs.Rerunning.{Rerun, rerun_none, rerun_more, rerun_all, rerun_told, rerun_sound}
+use Rattle.scheduler.proofs.Rerunning.{Rerun, rerun_more, rerun_all, rerun_told, rerun_sound}
+use Rattle.scheduler.proofs.replay.replay.Given.{Over}
 use Rattle.scheduler.proofs.replay.replay.Goals as goal
+
+laws_of : (g : Over) (d : Discipline g.row.O.Denot g.row.P.Denot) → LawfulParts (parts g.O.Ranking (policy_of g.P.Ranking.may g.P.Policy.spared) d)
+laws_of g d =
+    lawful_parts g.O.Ranking (policy_of g.P.Ranking.may g.P.Policy.spared) d
+    (record { total = g.met.O.Ranking.total d.order.0; transitive = g.met.O.Ranking.transitive d.order.0 })
+    (record { total = g.met.P.Ranking.total d.policy; transitive = g.met.P.Ranking.transitive d.policy })
 
 -- what a slice of calls is read as where it has none
 abbrev blank_call : Call
 blank_call = Arrive (record { number = 0; class = 0; computation = 0; deadline_in = 0; tolerance = 0; value = 0 })
 
-pub loop-place-init : goal.loop-place-init
-loop-place-init g c =
-    let d = c.new-scheduler.result.discipline in
-    let ρ = parts g.O.Ranking.may g.P.Ranking.may g.P.Policy.spared d in
-    let laws = lawful_parts g.O.Ranking.may g.P.Ranking.may g.P.Policy.spared d (record { total = g.met.O.Ranking.total d.order.0; transitive = g.met.O.Ranking.transitive d.order.0 }) (record { total = g.met.P.Ranking.total d.policy; transitive = g.met.P.Ranking.transitive d.policy }) in
-    (refl, rerun_none ρ laws c.args.calls.now c.args.answers.now _ c.new-scheduler.ensures.state)
-
 pub loop-place-preserved : goal.loop-place-preserved
 loop-place-preserved g c =
     let d = c.new-scheduler.result.discipline in
-    let ρ = parts g.O.Ranking.may g.P.Ranking.may g.P.Policy.spared d in
-    let laws = lawful_parts g.O.Ranking.may g.P.Ranking.may g.P.Policy.spared d (record { total = g.met.O.Ranking.total d.order.0; transitive = g.met.O.Ranking.transitive d.order.0 }) (record { total = g.met.P.Ranking.total d.policy; transitive = g.met.P.Ranking.transitive d.policy }) in
+    let ρ = parts g.O.Ranking (policy_of g.P.Ranking.may g.P.Policy.spared) d in
+    let laws = laws_of g d in
     let same = c.loop-place.invariant.0 in
     let was = view g.S.ReadyStore.jobs c.loop-place.scheduler in
     let now = view g.S.ReadyStore.jobs c.call.new.self in
     let k = asked_call (get_or c.args.calls.now c.loop-place.place blank_call) in
-    let exact = λ (range : InRange was). subst (λ e. serve (parts g.O.Ranking.may g.P.Ranking.may g.P.Policy.spared e) was k ≡ answers (answered c.call.result) now) same (c.call.ensures.serves.exact range) in
+    let exact = λ (range : InRange was). subst (λ e. serve (parts g.O.Ranking (policy_of g.P.Ranking.may g.P.Policy.spared) e) was k ≡ answers (answered c.call.result) now) same (c.call.ensures.serves.exact range) in
     (c.call.ensures.same ∙ same, rerun_more ρ laws c.args.calls.now c.args.answers.now c.loop-place.answers c.loop-place.place blank_call was now c.call.result c.loop-place-test.true (omega arith) c.loop-place.invariant.1 exact)
 
 pub returns : goal.returns
 returns g c =
     let d = c.loop-place.scheduler.discipline in
-    let ρ = parts g.O.Ranking.may g.P.Ranking.may g.P.Policy.spared d in
-    let laws = lawful_parts g.O.Ranking.may g.P.Ranking.may g.P.Policy.spared d (record { total = g.met.O.Ranking.total d.order.0; transitive = g.met.O.Ranking.transitive d.order.0 }) (record { total = g.met.P.Ranking.total d.policy; transitive = g.met.P.Ranking.transitive d.policy }) in
+    let ρ = parts g.O.Ranking (policy_of g.P.Ranking.may g.P.Policy.spared) d in
+    let laws = laws_of g d in
     let same = c.loop-place.invariant.0 in
     let ks = c.args.calls.now in
     let old = c.args.answers.now in
@@ -47,7 +48,7 @@ returns g c =
     let i = c.loop-place.place in
     let s = view g.S.ReadyStore.jobs c.loop-place.scheduler in
     let all : i ≡ length ks = omega arith in
-    let run = subst (λ e. Rerun (parts g.O.Ranking.may g.P.Ranking.may g.P.Policy.spared e) ks old new i s) (sym same) c.loop-place.invariant.1 in
+    let run = subst (λ e. Rerun (parts g.O.Ranking (policy_of g.P.Ranking.may g.P.Policy.spared) e) ks old new i s) (sym same) c.loop-place.invariant.1 in
     let state = rerun_all ρ laws ks old new i s (omega arith) run in (
       c.if-answers-calls.false,
       record {

@@ -6,7 +6,11 @@ use Rattle.tables.proofs.reading.read.Given as goal
 
 abbrev pub invariant-loop-line : goal.invariant-loop-line
 invariant-loop-line l =
-    (goal.iterator-loop-line).can_next l.line-iterator
-    × (goal.iterator-loop-line).is_finite l.line-iterator
-    × (l.number + length (lines_left l.line-iterator) ≤ 65537)
-    × (lines_in (l.number + 1) (lines_left l.line-iterator) (drafted l.draft) ≡ lines_in 1 (lines l.input) unread)
+    let number = l.line-iterator.b.start in
+    let left = lines_left l.line-iterator.a in
+    record {
+      can_next : (goal.iterator-loop-line).can_next l.line-iterator;
+      is_finite : (goal.iterator-loop-line).is_finite l.line-iterator;
+      few : number + length left ≤ 65538;
+      so_far : lines_in number left (drafted l.draft) ≡ lines_in 1 (lines l.input) unread;
+    }

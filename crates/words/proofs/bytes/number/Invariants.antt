@@ -4,6 +4,8 @@ use Rattle.words.proofs.bytes.number.Given as goal
 
 abbrev pub invariant-loop-b : goal.invariant-loop-b
 invariant-loop-b l =
-    (all_digits (drop l.b-index l.bytes) ≡ all_digits l.bytes) ×
-    (value_after l.value (drop l.b-index l.bytes) ≡ value l.bytes) ×
-    (l.value < 10 ^ l.b-index)
+    record {
+      digits : all_digits (drop l.b-index l.bytes) ≡ all_digits l.bytes;
+      so_far : value_after l.value (drop l.b-index l.bytes) ≡ value l.bytes;
+      small : l.value < 10 ^ l.b-index;
+    }

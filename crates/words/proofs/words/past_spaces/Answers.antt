@@ -1,9 +1,7 @@
 use Rattle.std.proofs.Common.{rules}
-use Rattle.words.proofs.Spacing.{no_words_left, space_passed}
+use Rattle.std.proofs.iter.runs.Sources.{ranges}
+use Rattle.words.proofs.Spacing.{spaces_found}
 use Rattle.words.proofs.words.past_spaces.Goals as goal
 
-pub loop-i-preserved : goal.loop-i-preserved
-loop-i-preserved c = search (rules, space_passed)
-
-pub returns : goal.returns
-returns c = search (rules, no_words_left)
+pub returns-clause-left : goal.returns-clause-left
+returns-clause-left c = spaces_found c.args.line.now c.args.start c.find.result (search (rules, ranges))

@@ -1,7 +1,7 @@
 use Rattle.std.proofs.Common.{refl}
-use Rattle.stores.specs.Tables.{lines}
+use Rattle.stores.specs.Tables.{listed}
 use Rattle.admission.proofs.Lawful.{lawful_parts}
-use Rattle.admission.specs.Disciplines.{parts}
+use Rattle.admission.specs.Disciplines.{policy_of, parts}
 use Rattle.scheduler.specs.Keeping.{view}
 use Rattle.scheduler.proofs.Collecting.{collected}
 use Rattle.scheduler.proofs.scheduler.Scheduler.collect.Goals as goal
@@ -9,7 +9,7 @@ use Rattle.scheduler.proofs.scheduler.Scheduler.collect.Goals as goal
 pub returns : goal.returns
 returns g c =
     let d = c.args.self.now.discipline in
-    let ρ = parts g.O.Ranking.may g.P.Ranking.may g.P.Policy.spared d in
-    let laws = lawful_parts g.O.Ranking.may g.P.Ranking.may g.P.Policy.spared d (record { total = g.met.O.Ranking.total d.order.0; transitive = g.met.O.Ranking.transitive d.order.0 }) (record { total = g.met.P.Ranking.total d.policy; transitive = g.met.P.Ranking.transitive d.policy }) in
+    let ρ = parts g.O.Ranking (policy_of g.P.Ranking.may g.P.Policy.spared) d in
+    let laws = lawful_parts g.O.Ranking (policy_of g.P.Ranking.may g.P.Policy.spared) d (record { total = g.met.O.Ranking.total d.order.0; transitive = g.met.O.Ranking.transitive d.order.0 }) (record { total = g.met.P.Ranking.total d.policy; transitive = g.met.P.Ranking.transitive d.policy }) in
     let s = view g.S.ReadyStore.jobs c.args.self.now in
-    record { same = refl; serves = collected ρ laws s (lines c.take_first.new.self) c.take_first.result c.take_first.ensures }
+    record { same = refl; serves = collected ρ laws s (listed c.take_first.new.self) c.take_first.result c.take_first.ensures }
