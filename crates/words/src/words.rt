@@ -1,5 +1,5 @@
 //! The words of a line with their places, and the readers of numbers above them.
-ghost use Rattle.std.specs.Prelude.{◌≡◌, ◌+◌, ◌<◌, ◌≤◌, [], ◌∷◌, length, drop, IfOk, IfSome, MatchOption, ◌≢◌, slice_index};
+ghost use Rattle.std.specs.Prelude.{◌≡◌, ◌+◌, ◌<◌, ◌≤◌, [], ◌∷◌, length, drop, IfOk, IfSome, OnOk, MatchOption, ◌≢◌, slice_index};
 ghost use Rattle.std.specs.Result.{result_map_both};
 ghost use Rattle.words.specs.Bytes.{words};
 ghost use Rattle.std.specs.Str.{bytes_eq};
@@ -108,7 +108,9 @@ impl<'a> Words<'a> {
 
     /// The next word as a number, and no word more.
     pub fn only_number(&mut self) -> Result<Number, WordFault>
-        ensures { result ≡ number_alone (past_end self.old) (words_left self.old) }
+        ensures value { result ≡ number_alone (past_end self.old) (words_left self.old) }
+        ensures read { OnOk result (words_left self.new ≡ []) }
+        ensures end { past_end self.new ≡ past_end self.old }
     {
         let number = self.number()?;
         self.end()?;
