@@ -1,10 +1,8 @@
 //! Whether a job fits, found in one walk through the ready list.
 ghost use Rattle.std.specs.Prelude.{◌≡◌, ◌==◌};
-ghost use Rattle.jobs.specs.Records.{number};
-ghost use Rattle.rankings.specs.Ranked.{before};
-ghost use Rattle.rankings.specs.Rankings.{by_mark};
 ghost use Rattle.rules.specs.Giving.{without};
 ghost use Rattle.timing.specs.Overruns.{exceeding_of};
+ghost use Rattle.admission.specs.Disciplines.{by_dispatch};
 ghost use Rattle.admission.specs.Trials.{turn, Puts, Passes, Finishes, Tries};
 
 use jobs::job::{Job, Mark};
@@ -60,7 +58,7 @@ impl Walk {
         job: &Job,
         other: &Job,
     ) -> Result<(), Refusal>
-        ensures { Passes (before (by_mark (O.Ranking.may order.now.0)) number) job.now (turn self.old) other.now (turn self.new) result }
+        ensures { Passes (by_dispatch O.Ranking order.now) job.now (turn self.old) other.now (turn self.new) result }
     {
         if self.place.is_none() && order.precedes(job, other) {
             self.put(job)?;
@@ -86,6 +84,7 @@ impl Walk {
 
 /// Adds `job` to the ready list without the jobs `absent`, for a trial: nothing is changed.
 /// It is refused where the list with it would have more than 64 jobs.
+#[inline]
 pub fn try_out<S: ReadyStore, O: Ranking<Item = Mark>>(
     order: &ByMark<O>,
     ready: &S,
@@ -93,7 +92,7 @@ pub fn try_out<S: ReadyStore, O: Ranking<Item = Mark>>(
     job: &Job,
     absent: &[Job],
 ) -> Result<Trial, Refusal>
-    ensures { Tries (before (by_mark (O.Ranking.may order.now.0)) number) tick job.now (without absent.now (S.ReadyStore.jobs ready.now)) result }
+    ensures { Tries (by_dispatch O.Ranking order.now) tick job.now (without absent.now (S.ReadyStore.jobs ready.now)) result }
 {
     let mut walk = Walk {
         timeline: Timeline::new(tick),
@@ -109,13 +108,14 @@ pub fn try_out<S: ReadyStore, O: Ranking<Item = Mark>>(
 }
 
 /// Adds `job` to the whole ready list, for a trial.
+#[inline]
 pub fn try_whole<S: ReadyStore, O: Ranking<Item = Mark>>(
     order: &ByMark<O>,
     ready: &S,
     tick: u32,
     job: &Job,
 ) -> Result<Trial, Refusal>
-    ensures { Tries (before (by_mark (O.Ranking.may order.now.0)) number) tick job.now (S.ReadyStore.jobs ready.now) result }
+    ensures { Tries (by_dispatch O.Ranking order.now) tick job.now (S.ReadyStore.jobs ready.now) result }
 {
     try_out(order, ready, tick, job, &[])
 }

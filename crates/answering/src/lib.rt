@@ -4,8 +4,8 @@
 use std::alloc::{AllocError, Global};
 use std::io::{Read, Write};
 
-/// Reads standard input, one byte more than `limit` at most, so that `reply` sees an input that is too long, and writes
-/// what `reply` answers. What is read and written is the system's, so nothing is promised of it.
+/// Reads at most `limit` + 1 bytes of standard input, so that `reply` can tell an input that is too long, and writes what
+/// `reply` answers. No clause says so: input and output are the system's.
 pub fn answer_input<F: FnOnce(Global, &[u8]) -> Result<String, AllocError>>(
     rt: &(impl Input + Print + AllocGlobal),
     limit: usize,

@@ -1,5 +1,8 @@
 //! The ranges of a job's numbers.
 ghost use Rattle.std.specs.Prelude.{◌≡◌, ◌&&◌, nat_le};
+ghost use Rattle.jobs.specs.Ranges.{in_range};
+
+use crate::refusal::Refusal;
 
 /// The least and the most that a number may be.
 #[derive(Clone, Copy, PartialEq, Eq, Debug)]
@@ -13,6 +16,17 @@ impl Bounds {
         ensures { result ≡ (nat_le self.least n && nat_le n self.most) }
     {
         (self.least..=self.most).contains(&n)
+    }
+
+    /// The number, if the bounds contain it; any other is refused.
+    pub fn accept(self, n: u32) -> Result<u32, Refusal>
+        ensures { result ≡ in_range self.least self.most n }
+    {
+        if self.contains(n) {
+            Ok(n)
+        } else {
+            Err(Refusal::Range)
+        }
     }
 }
 

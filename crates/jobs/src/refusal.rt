@@ -2,6 +2,7 @@
 ghost use Rattle.std.specs.Prelude.{◌≡◌, Some};
 ghost use Rattle.jobs.specs.Refusals.{refusal_number, refusal_name};
 
+use std::error::Error;
 use std::fmt;
 
 /// The rule that a call broke. A refused call changes nothing.
@@ -62,3 +63,5 @@ impl fmt::Display for Refusal {
         f.write_str(self.name())
     }
 }
+
+impl Error for Refusal {}

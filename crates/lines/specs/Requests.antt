@@ -5,15 +5,15 @@
 --   call_of q               the words q as a call of the rules
 --   fault_place q e         the place of the word that the refusal e of that call is about, 1 where it is about none
 --   line_calls line         the call that a line makes, if it makes one
-use Rattle.std.specs.Prelude.{ℕ, ◌+◌, cond, List, [], ◌∷◌, length, drop, Some, None, Ok, Err, Option, Result}
+use Rattle.std.specs.Prelude.{ℕ, cond, List, [], ◌∷◌, Some, None, Ok, Err, Option, Result}
 use Rattle.std.specs.Option.{option_or}
 use Rattle.jobs.specs.declared.refusal.Refusal.{Refusal}
 use Rattle.jobs.specs.declared.refusal.Refusal.TheVariants.{Range, Class as ClassRule, Horizon, Known, Full, Hopeless, Unknown, Waiting, Nothing, Short}
 use Rattle.rules.specs.Calls.{between}
 use Rattle.rules.specs.States.{Arrival, Call, arrive, work, finish, withdraw, collect}
-use Rattle.words.specs.Bytes.{Piece, words}
+use Rattle.words.specs.Bytes.{Piece}
 use Rattle.words.specs.Faults.{then}
-use Rattle.words.specs.Readers.{first_word, first_number, optional_number, none_left, number_alone}
+use Rattle.words.specs.Readers.{Rest, whole, skip, first, first_word, first_number, optional_number, none_left, number_alone}
 use Rattle.words.specs.declared.fault.WordFault.{WordFault}
 use Rattle.words.specs.declared.words.Number.{Number}
 use Rattle.lines.specs.declared.request.Worth.{Worth}
@@ -42,49 +42,48 @@ pub data Request : Type 0 where
   calling : Asking → Request
   profiling : Request
 
--- READING: words from left to right, each fault at its word; `past` is the place one past the line
+-- READING: words from left to right, each fault at its word
 
 -- the letter of a line, if it has words
-abbrev pub first_letter : List Piece → Result (Option Letter) WordFault
-first_letter [] = Ok None
-first_letter (w ∷ ws) = then (letter_at w.place (letter_in w.text)) (λ l. Ok (Some l))
+abbrev pub first_letter : Rest → Result (Option Letter) WordFault
+first_letter r = elim (first r) [ None ↦ Ok None | Some w ↦ then (letter_at w.place (letter_in w.text)) (λ l. Ok (Some l)) ]
 
 -- VALUE [TOLERANCE], and no word more
-abbrev pub worth_in : ℕ → List Piece → Result Worth WordFault
-worth_in past ws =
-    then (first_number past ws) (λ v.
-    then (optional_number (drop 1 ws)) (λ m.
-    then (none_left (drop 2 ws)) (λ _.
+abbrev pub worth_in : Rest → Result Worth WordFault
+worth_in r =
+    then (first_number r) (λ v.
+    then (optional_number (skip 1 r)) (λ m.
+    then (none_left (skip 2 r)) (λ _.
     Ok (record { value = v; tolerance = m }))))
 
 -- NUMBER CLASS C D VALUE [TOLERANCE], and no word more
-abbrev pub arrival_in : ℕ → List Piece → Result Arriving WordFault
-arrival_in past ws =
-    then (first_number past ws) (λ n.
-    then (first_word past (drop 1 ws)) (λ k.
-    then (first_number past (drop 2 ws)) (λ c.
-    then (first_number past (drop 3 ws)) (λ d.
-    then (worth_in past (drop 4 ws)) (λ x.
+abbrev pub arrival_in : Rest → Result Arriving WordFault
+arrival_in r =
+    then (first_number r) (λ n.
+    then (first_word (skip 1 r)) (λ k.
+    then (first_number (skip 2 r)) (λ c.
+    then (first_number (skip 3 r)) (λ d.
+    then (worth_in (skip 4 r)) (λ x.
     Ok (record { number = n; class = k; computation = c; deadline_in = d; worth = x }))))))
 
--- what a letter asks for, its words being ws
-abbrev pub request_in : Letter → ℕ → List Piece → Result Request WordFault
-request_in Arrive past ws = then (arrival_in past ws) (λ a. Ok (calling (arriving a)))
-request_in Work past ws = then (number_alone past ws) (λ n. Ok (calling (working n)))
-request_in Finish past ws = then (number_alone past ws) (λ n. Ok (calling (finishing n)))
-request_in Withdraw past ws = then (number_alone past ws) (λ n. Ok (calling (withdrawing n)))
-request_in Collect past ws = then (none_left ws) (λ _. Ok (calling collecting))
-request_in Profile past ws = then (none_left ws) (λ _. Ok profiling)
+-- what a letter asks for, its words being those of r
+abbrev pub request_in : Letter → Rest → Result Request WordFault
+request_in Arrive r = then (arrival_in r) (λ a. Ok (calling (arriving a)))
+request_in Work r = then (number_alone r) (λ n. Ok (calling (working n)))
+request_in Finish r = then (number_alone r) (λ n. Ok (calling (finishing n)))
+request_in Withdraw r = then (number_alone r) (λ n. Ok (calling (withdrawing n)))
+request_in Collect r = then (none_left r) (λ _. Ok (calling collecting))
+request_in Profile r = then (none_left r) (λ _. Ok profiling)
 
-abbrev pub asked_by : Option Letter → ℕ → List Piece → Result (Option Request) WordFault
-asked_by None past ws = Ok None
-asked_by (Some l) past ws = then (request_in l past ws) (λ q. Ok (Some q))
+abbrev pub asked_by : Option Letter → Rest → Result (Option Request) WordFault
+asked_by None r = Ok None
+asked_by (Some l) r = then (request_in l r) (λ q. Ok (Some q))
 
-abbrev pub words_in : ℕ → List Piece → Result (Option Request) WordFault
-words_in past ws = then (first_letter ws) (λ l. asked_by l past (drop 1 ws))
+abbrev pub words_in : Rest → Result (Option Request) WordFault
+words_in r = then (first_letter r) (λ l. asked_by l (skip 1 r))
 
 abbrev pub line_in : List ℕ → Result (Option Request) WordFault
-line_in line = words_in (length line + 1) (words 1 line)
+line_in line = words_in (whole line)
 
 -- THE CALL
 

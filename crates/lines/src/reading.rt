@@ -2,7 +2,7 @@
 ghost use Rattle.std.specs.Prelude.{◌≡◌};
 ghost use Rattle.std.specs.Option.{option_map as mapped_some};
 ghost use Rattle.std.specs.Result.{result_map_both};
-ghost use Rattle.words.specs.Readers.{words_left, past_end, TakesOne};
+ghost use Rattle.words.specs.Readers.{rest, skip};
 ghost use Rattle.lines.specs.Forms.{arriving, requested};
 ghost use Rattle.lines.specs.Requests.{first_letter, worth_in, arrival_in, request_in, line_in};
 
@@ -12,15 +12,15 @@ use words::{WordFault, Words};
 
 /// The letter of a line, if the line has words.
 fn read_letter(words: &mut Words<'_>) -> Result<Option<Letter>, WordFault>
-    ensures value { result ≡ first_letter (words_left words.old) }
-    ensures taken { TakesOne words.old words.new }
+    ensures value { result ≡ first_letter (rest words.old) }
+    ensures left { rest words.new ≡ skip 1 (rest words.old) }
 {
     words.next().map(Letter::try_from).transpose()
 }
 
 /// What an arrival is worth, how late it may be, if that is said, and no word more.
 fn read_worth(words: &mut Words<'_>) -> Result<Worth, WordFault>
-    ensures { result ≡ worth_in (past_end words.old) (words_left words.old) }
+    ensures { result ≡ worth_in (rest words.old) }
 {
     let value = words.number()?;
     let tolerance = words.optional_number()?;
@@ -30,7 +30,7 @@ fn read_worth(words: &mut Words<'_>) -> Result<Worth, WordFault>
 
 /// The words of an arrival, and no word more.
 fn read_arrival<'a>(words: &mut Words<'a>) -> Result<ArrivalWords<'a>, WordFault>
-    ensures { result_map_both arriving (λ f. f) result ≡ arrival_in (past_end words.old) (words_left words.old) }
+    ensures { result_map_both arriving (λ f. f) result ≡ arrival_in (rest words.old) }
 {
     let number = words.number()?;
     let class = words.word()?;
@@ -48,7 +48,7 @@ fn read_arrival<'a>(words: &mut Words<'a>) -> Result<ArrivalWords<'a>, WordFault
 
 /// The words that a letter asks for, and no word more.
 fn read_request<'a>(letter: Letter, words: &mut Words<'a>) -> Result<Request<'a>, WordFault>
-    ensures { result_map_both requested (λ f. f) result ≡ request_in letter (past_end words.old) (words_left words.old) }
+    ensures { result_map_both requested (λ f. f) result ≡ request_in letter (rest words.old) }
 {
     let call = match letter {
         Letter::Arrive => CallWords::Arrive(read_arrival(words)?),

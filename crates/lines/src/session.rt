@@ -127,6 +127,14 @@ impl Session {
     }
 }
 
+impl Default for Session {
+    ghost is_default = { λ s. s ≡ start };
+
+    fn default() -> Session {
+        Session::new()
+    }
+}
+
 /// Writes a line for each entry.
 fn write_entries(text: &mut String, entries: &[Entry]) -> Result<(), AllocError>
     ensures { Appends (entry_lines entries.now) text.old text.new result }

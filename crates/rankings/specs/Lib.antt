@@ -1,2 +1,3 @@
 pub mod Ranked
 pub mod Rankings
+pub mod Standing

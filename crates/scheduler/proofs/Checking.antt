@@ -4,12 +4,30 @@ use Rattle.std.proofs.lemmas.Bool.{leb-false}
 use Rattle.jobs.specs.declared.job.Job.{Job}
 use Rattle.jobs.specs.declared.refusal.Refusal.{Refusal}
 use Rattle.jobs.specs.declared.refusal.Refusal.TheVariants.{Range, Class as ClassRule, Known, Full, Hopeless}
-use Rattle.rules.specs.Calls.{refusing, out_of_range, job_of, admit, on_arrive}
+use Rattle.jobs.specs.Ranges.{in_range}
+use Rattle.rules.specs.Calls.{between, refusing, out_of_range, job_of, admit, on_arrive}
 use Rattle.rules.specs.Lists.{count}
 use Rattle.rules.specs.Ranges.{JobInRange, InRange, Fields}
 use Rattle.rules.specs.States.{Parts, State, Arrival, refused, Outcome, answers, has, known, population}
 use Rattle.rules.proofs.Keeping.{all_parts}
 use Rattle.scheduler.specs.Serving.{checked}
+
+-- A NUMBER IN ITS RANGE
+
+accepted : (inside : Bool) (n m : ℕ) → Ok m ≡ cond inside (Ok n) (Err Range) → (inside ≡ true) × (m ≡ n)
+accepted true n m is = (refl, cc)
+accepted false n m is = (cc, cc)
+
+turned_away : (inside : Bool) (n : ℕ) (e : Refusal) → Err e ≡ cond inside (Ok n) (Err Range) → (inside ≡ false) × (e ≡ Range)
+turned_away true n e is = (cc, cc)
+turned_away false n e is = (refl, cc)
+
+module _ (low high n : ℕ) where
+  pub in_bounds : (m : ℕ) → Ok m ≡ in_range low high n → (between low high n ≡ true) × (m ≡ n)
+  in_bounds m = accepted (between low high n) n m
+
+  pub out_of_bounds : (e : Refusal) → Err e ≡ in_range low high n → (between low high n ≡ false) × (e ≡ Range)
+  out_of_bounds = turned_away (between low high n) n
 
 -- THE CHECKS AND THE RULE
 

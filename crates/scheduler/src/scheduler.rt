@@ -1,5 +1,6 @@
 //! The scheduler: its calls, and the looks at it, which change nothing.
 ghost use Rattle.std.specs.Prelude.{◌≡◌, ◌≤◌};
+ghost use Rattle.jobs.specs.declared.ranges.TheConstants.{LAST_TICK};
 ghost use Rattle.scheduler.specs.Calling.{NumberedSo};
 
 use crate::calls::{Answer, Arrival, Call};
@@ -23,7 +24,7 @@ use timing::timeline::Timeline;
 pub struct Scheduler<S, O, P> {
     discipline: Discipline<O, P>,
     roster: Roster<S>,
-    ghost within: { roster.clock ≤ 1000000000 },
+    ghost within: { roster.clock ≤ LAST_TICK },
 }
 
 impl<S: ReadyStore, O: Ranking<Item = Mark>, P: Policy> Scheduler<S, O, P> {
@@ -150,9 +151,7 @@ impl<S: ReadyStore, O: Ranking<Item = Mark>, P: Policy> Scheduler<S, O, P> {
     pub fn work(&mut self, ticks: u32) -> Result<u32, Refusal>
         ensures { Keeps S.ReadyStore O.Ranking P.Policy self.old (work ticks) (or_refused now_at result) self.new }
     {
-        if !TICKS.contains(ticks) {
-            return Err(Refusal::Range);
-        }
+        let ticks = TICKS.accept(ticks)?;
         if self.roster.clock + ticks > LAST_TICK {
             return Err(Refusal::Horizon);
         }
@@ -227,8 +226,5 @@ impl<S: ReadyStore, O: Ranking<Item = Mark>, P: Policy> Scheduler<S, O, P> {
 fn job_number(number: u32) -> Result<u16, Refusal>
     ensures { NumberedSo number result }
 {
-    if !NUMBERS.contains(number) {
-        return Err(Refusal::Range);
-    }
-    Ok(number as u16)
+    Ok(NUMBERS.accept(number)? as u16)
 }

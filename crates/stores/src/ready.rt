@@ -1,6 +1,7 @@
 //! The ready store: where a scheduler keeps its ready jobs.
 ghost use Rattle.std.specs.Prelude.{◌≡◌, ◌≤◌, ◌==◌, List, [], length, OnErr};
 ghost use Rattle.jobs.specs.declared.job.Job.{Job};
+ghost use Rattle.jobs.specs.declared.ranges.TheConstants.{CAPACITY};
 ghost use Rattle.stores.specs.Places.{read_at, insert_at, take_at, set_at, jobs_left, Changes};
 ghost use Rattle.std.specs.Iterator.{YieldsFirst, item_count};
 
@@ -12,7 +13,7 @@ pub trait ReadyStore {
     /// The list that the store means.
     ghost jobs: { Self → List Job };
 
-    ghost short: { (s : Self) → length (jobs s) ≤ 64 };
+    ghost short: { (s : Self) → length (jobs s) ≤ CAPACITY };
 
     fn len(&self) -> usize
         ensures { result ≡ length (jobs self.now) };

@@ -1,7 +1,8 @@
 //! A table of records, kept by a ranking or by places.
-ghost use Rattle.std.specs.Prelude.{◌≡◌, ◌≤◌, [], length, OnErr};
+ghost use Rattle.std.specs.Prelude.{◌≡◌, ◌≤◌, ◌==◌, [], length, OnErr};
 ghost use Rattle.std.specs.Borrow.{sem};
-ghost use Rattle.rankings.specs.Ranked.{before};
+ghost use Rattle.jobs.specs.declared.ranges.TheConstants.{CAPACITY};
+ghost use Rattle.rankings.specs.Standing.{by_ranking};
 ghost use Rattle.stores.specs.Places.{read_at, insert_at, take_at, set_at, Changes};
 
 use crate::lookup::has_number;
@@ -19,7 +20,7 @@ use rankings::ranking::Ranking;
 #[derive(Drop)]
 pub struct RecordTable<T> {
     records: ArrayVec<T, CAPACITY>,
-    ghost short: { length records.items ≤ 64 },
+    ghost short: { length records.items ≤ CAPACITY },
 }
 
 /// A table of jobs, which is a ready store too.
@@ -46,10 +47,16 @@ impl<T: Numbered + Default> RecordTable<T> {
         self.records.len()
     }
 
+    pub fn is_empty(&self) -> bool
+        ensures { result ≡ (length (listed self.now) == 0) }
+    {
+        self.records.is_empty()
+    }
+
     /// The records in their order.
     pub fn as_slice(&self) -> &[T]
         ensures list { result.now ≡ listed self.now }
-        ensures few { length result.now ≤ 64 }
+        ensures few { length result.now ≤ CAPACITY }
     {
         self.records.as_slice()
     }
@@ -71,7 +78,7 @@ impl<T: Numbered + Default> RecordTable<T> {
 
     /// Puts a record into the list by a ranking; a full table refuses it.
     pub fn insert_by<R: Ranking<Item = T>>(&mut self, ranking: &R, item: T) -> Result<(), Refusal>
-        ensures { Kept (before (R.Ranking.may ranking.now) T.Numbered.number) item (listed self.old) (listed self.new) result }
+        ensures { Kept (by_ranking R.Ranking T.Numbered ranking.now) item (listed self.old) (listed self.new) result }
     {
         insertion::insert(ranking, &mut self.records, item)?;
         Ok(())
@@ -82,6 +89,16 @@ impl<T: Numbered + Default> RecordTable<T> {
         ensures { First (listed self.old) (listed self.new) result }
     {
         self.records.pop_at(0).ok_or(Refusal::Nothing)
+    }
+}
+
+impl<T: Numbered + Default> Default for RecordTable<T> {
+    ghost use Rattle.stores.specs.Tables.{listed};
+
+    ghost is_default = { λ table. listed table ≡ [] };
+
+    fn default() -> RecordTable<T> {
+        RecordTable::new()
     }
 }
 

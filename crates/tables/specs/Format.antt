@@ -1,11 +1,11 @@
 -- What the lines of a table say, from the bytes on.
-use Rattle.std.specs.Prelude.{◌≡◌, ℕ, ◌+◌, Bool, true, false, cond, not, ◌&&◌, List, [], ◌∷◌, length, drop, Some, None, Ok, Err, codes, Option, Result, nat_lt}
+use Rattle.std.specs.Prelude.{◌≡◌, ℕ, ◌+◌, Bool, true, false, cond, not, ◌&&◌, List, [], ◌∷◌, length, Some, None, Ok, Err, codes, Option, Result, nat_lt}
 use Rattle.std.specs.Str.{bytes_eq}
 use Rattle.jobs.specs.declared.job.Class.TheVariants.{Hard}
 use Rattle.jobs.specs.declared.job.Job.{Job}
-use Rattle.words.specs.Bytes.{Piece, lines, words}
+use Rattle.words.specs.Bytes.{lines}
 use Rattle.words.specs.Faults.{too_long, broken_at, in_line, then}
-use Rattle.words.specs.Readers.{first_number, optional_number, none_left, within}
+use Rattle.words.specs.Readers.{Rest, whole, skip, first, first_number, optional_number, none_left, number_alone, within}
 use Rattle.words.specs.declared.fault.Fault.{Fault}
 use Rattle.words.specs.declared.fault.WordFault.{WordFault}
 use Rattle.words.specs.declared.words.Number.{Number}
@@ -34,9 +34,9 @@ job_of start n c d m =
       by = 0;
     }
 
--- TICK, and no word more; `past` is the place one past the line
-abbrev pub start_in : ℕ → List Piece → Result ℕ WordFault
-start_in past ws = then (first_number past ws) (λ t. then (none_left (drop 1 ws)) (λ _. Ok t.value))
+-- TICK, and no word more
+abbrev pub start_in : Rest → Result ℕ WordFault
+start_in r = then (number_alone r) (λ t. Ok t.value)
 
 -- a tolerance that is left out is 0
 abbrev pub tolerance_in : Option Number → Result ℕ WordFault
@@ -44,29 +44,32 @@ tolerance_in None = Ok 0
 tolerance_in (Some m) = within 0 100000000 m
 
 -- NUMBER REMAINING DEADLINE [TOLERANCE]: first the words from left to right, then the ranges
-abbrev pub job_in : ℕ → ℕ → List Piece → Result Job WordFault
-job_in start past ws =
-    then (first_number past ws) (λ n.
-    then (first_number past (drop 1 ws)) (λ c.
-    then (first_number past (drop 2 ws)) (λ d.
-    then (optional_number (drop 3 ws)) (λ m.
-    then (none_left (drop 4 ws)) (λ _.
+abbrev pub job_in : ℕ → Rest → Result Job WordFault
+job_in start r =
+    then (first_number r) (λ n.
+    then (first_number (skip 1 r)) (λ c.
+    then (first_number (skip 2 r)) (λ d.
+    then (optional_number (skip 3 r)) (λ m.
+    then (none_left (skip 4 r)) (λ _.
     then (within 1 65535 n) (λ number.
     then (within 1 1000000 c) (λ remaining.
     then (tolerance_in m) (λ tolerance.
     Ok (job_of start number remaining d.value tolerance)))))))))
 
 -- a line of words: the first may be `at TICK`, every other is a job
-abbrev pub words_in : ℕ → List Piece → Begun → Result Begun WordFault
-words_in past [] s = Ok s
-words_in past (w ∷ ws) s =
-    cond (not s.begun && bytes_eq w.text (codes "at"))
-    (then (start_in past ws) (λ t. Ok (record { begun = true; sheet = record { start = t; jobs = s.sheet.jobs } })))
-    (then (job_in s.sheet.start past (w ∷ ws)) (λ j.
-    then (broken_at 1 (entered s.sheet j)) (λ sheet. Ok (record { begun = true; sheet = sheet }))))
+abbrev pub words_in : Rest → Begun → Result Begun WordFault
+words_in r s =
+    elim (first r) [
+      | None ↦ Ok s
+      | Some w ↦
+          cond (not s.begun && bytes_eq w.text (codes "at"))
+          (then (start_in (skip 1 r)) (λ t. Ok (record { begun = true; sheet = record { start = t; jobs = s.sheet.jobs } })))
+          (then (job_in s.sheet.start r) (λ j.
+          then (broken_at 1 (entered s.sheet j)) (λ sheet. Ok (record { begun = true; sheet = sheet }))))
+    ]
 
 abbrev pub line_in : List ℕ → Begun → Result Begun WordFault
-line_in line s = words_in (length line + 1) (words 1 line) s
+line_in line s = words_in (whole line) s
 
 -- the lines from the one of number n on
 abbrev pub lines_in : ℕ → List (List ℕ) → Begun → Result Begun Fault

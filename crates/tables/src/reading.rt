@@ -1,6 +1,6 @@
 //! Reading a table: a line `at TICK`, which may be left out, and a line for each job.
 ghost use Rattle.std.specs.Prelude.{◌≡◌};
-ghost use Rattle.words.specs.Readers.{words_left, past_end};
+ghost use Rattle.words.specs.Readers.{rest};
 ghost use Rattle.tables.specs.Format.{drafted, start_in, tolerance_in, job_in, Taken, Read};
 
 use crate::table::Table;
@@ -19,7 +19,7 @@ struct Draft {
 
 /// The tick of a line `at TICK`, its first word being read.
 fn read_start(words: &mut Words<'_>) -> Result<u32, WordFault>
-    ensures { result ≡ start_in (past_end words.old) (words_left words.old) }
+    ensures { result ≡ start_in (rest words.old) }
 {
     Ok(words.only_number()?.value)
 }
@@ -33,7 +33,7 @@ fn tolerance_of(word: Option<Number>) -> Result<u32, WordFault>
 
 /// The job of a line. The words are read first, then their ranges are held.
 fn read_job(start: u32, words: &mut Words<'_>) -> Result<Job, WordFault>
-    ensures { result ≡ job_in start (past_end words.old) (words_left words.old) }
+    ensures { result ≡ job_in start (rest words.old) }
 {
     let number = words.number()?;
     let remaining = words.number()?;

@@ -35,3 +35,11 @@ impl Table {
         self.jobs.insert_by(&ByMark(ByDeadline), job)
     }
 }
+
+impl Default for Table {
+    ghost is_default = { λ t. sheet t ≡ blank };
+
+    fn default() -> Table {
+        Table::new()
+    }
+}

@@ -2,6 +2,7 @@
 use Rattle.std.specs.Prelude.{ℕ, ◌+◌, ◌-◌, max, Bool, true, cond, ◌&&◌, List, [], ◌∷◌, pos, ◌+ℤ◌, ◌≤ℤ◌, Some, None, Option, ◌==◌, nat_le, nat_lt}
 use Rattle.jobs.specs.declared.job.Job.{Job}
 use Rattle.timing.specs.declared.entry.Entry.{Entry}
+use Rattle.timing.specs.declared.entry.Load.{Load}
 use Rattle.jobs.specs.Records.{number, limit, residual, excess}
 
 -- the tick at which the last job of a list finishes, its first begun at t
@@ -33,8 +34,8 @@ abbrev pub cause : ℕ → List Job → ℕ
 cause t js = cond (exceeding t js == 0) 0 (first_by (exceeding t js) t js)
 
 -- the load of a job up to which the list from the start tick t takes `sum` ticks, absent once its deadline has come
-abbrev pub load : ℕ → ℕ → Job → Option (ℕ × ℕ)
-load t sum j = cond (nat_lt t j.mark.deadline) (Some (sum, j.mark.deadline - t)) None
+abbrev pub load : ℕ → ℕ → Job → Option Load
+load t sum j = cond (nat_lt t j.mark.deadline) (Some (record { sum = sum; span = j.mark.deadline - t })) None
 
 abbrev pub entry : ℕ → ℕ → Job → Entry
 entry t sum j = record { number = number j; finish = t + sum; residual = residual (t + sum) j; load = load t sum j }

@@ -1,8 +1,27 @@
 //! What is known of one job of a list that is worked in its order.
 ghost use Rattle.std.specs.Prelude.{Some};
-ghost use Rattle.timing.specs.Written.{entry_text};
+ghost use Rattle.timing.specs.Written.{load_text, entry_text};
 
 use std::fmt;
+
+/// The load of a list up to and with one of its jobs, a fraction that is not reduced.
+#[derive(Clone, Copy, PartialEq, Eq, Debug)]
+pub struct Load {
+    /// The ticks that the jobs take.
+    pub sum: u64,
+    /// The ticks from the start to the deadline of the last of them.
+    pub span: u64,
+}
+
+/// A load is written as `SUM SPAN`.
+impl fmt::Display for Load {
+    ghost output = { λ l. Some (load_text l) };
+
+    fn fmt<W: fmt::Write>(&self, f: &mut fmt::Formatter<W>) -> fmt::Result {
+        let Load { sum, span } = *self;
+        write!(f, "{sum} {span}")
+    }
+}
 
 /// One job of a list: when it finishes, what it leaves to its deadline, and its load.
 #[derive(Clone, Copy, Default, PartialEq, Eq, Debug)]
@@ -11,9 +30,8 @@ pub struct Entry {
     pub finish: u64,
     /// The deadline less the finish.
     pub residual: i64,
-    /// The ticks of the list up to and with this job, over those from the start to its deadline.
-    /// The fraction is not reduced. It is absent once the deadline has come.
-    pub load: Option<(u64, u64)>,
+    /// The load up to and with this job, absent once its deadline has come.
+    pub load: Option<Load>,
 }
 
 impl fmt::Display for Entry {
@@ -27,7 +45,7 @@ impl fmt::Display for Entry {
             load,
         } = *self;
         match load {
-            Some((sum, span)) => write!(f, "job {number} {finish} {residual} {sum} {span}"),
+            Some(load) => write!(f, "job {number} {finish} {residual} {load}"),
             None => write!(f, "job {number} {finish} {residual} - -"),
         }
     }

@@ -1,4 +1,5 @@
 //! Examples of the published method, and the edges of a list.
+use crate::entry::Load;
 use crate::timeline::Timeline;
 use jobs::job::{Job, Mark};
 use std::test::Fail;
@@ -56,6 +57,9 @@ fn sixty_four_jobs_and_no_more(rt: HostRuntime) -> Result<(), Fail> {
 fn no_load_once_the_deadline_has_come(rt: HostRuntime) -> Result<(), Fail> {
     let mut walk = Timeline::new(5);
     assert_eq!(rt; walk.add(&job(1, 2, 5, 0))?.load, None);
-    assert_eq!(rt; walk.add(&job(2, 2, 6, 0))?.load, Some((4, 1)));
+    assert_eq!(rt;
+        walk.add(&job(2, 2, 6, 0))?.load,
+        Some(Load { sum: 4, span: 1 })
+    );
     Ok(())
 }

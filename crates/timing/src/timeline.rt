@@ -4,7 +4,7 @@ ghost use Rattle.timing.specs.Profiles.{Profile};
 ghost use Rattle.timing.specs.Tallies.{fresh, Step, Walk};
 ghost use Rattle.timing.specs.Timing.{load};
 
-use crate::entry::Entry;
+use crate::entry::{Entry, Load};
 use crate::overrun::Overrun;
 use jobs::job::Job;
 use jobs::ranges::CAPACITY;
@@ -26,24 +26,26 @@ pub struct Timeline {
 impl Model for Timeline {
     ghost use Rattle.std.specs.Prelude.{◌*◌, ◌≤◌};
     ghost use Rattle.timing.specs.Tallies.{Tally};
+    ghost use Rattle.jobs.specs.declared.ranges.TheConstants.{CAPACITY};
     ghost use Rattle.timing.specs.Overruns.{exceeding_of, cause_of};
 
     ghost Value = { Tally };
 
     ghost view = { λ w. record { start = w.start; jobs = w.jobs; sum = w.sum; exceeding = exceeding_of w.overrun; cause = cause_of w.overrun } };
 
-    ghost invariant = { λ w. (w.jobs ≤ 64) × (w.sum ≤ w.jobs * 4294967296) };
+    ghost invariant = { λ w. (w.jobs ≤ CAPACITY) × (w.sum ≤ w.jobs * 4294967296) };
 }
 
 /// The load of `job`, up to which the list takes `sum` ticks from `start`.
-fn load_of(start: u32, sum: u64, job: &Job) -> Option<(u64, u64)>
+fn load_of(start: u32, sum: u64, job: &Job) -> Option<Load>
     ensures { result ≡ load start sum job.now }
 {
     let deadline = job.mark.deadline;
     if deadline <= start {
         return None;
     }
-    Some((sum, u64::from(deadline - start)))
+    let span = u64::from(deadline - start);
+    Some(Load { sum, span })
 }
 
 impl Timeline {
@@ -98,9 +100,15 @@ impl Timeline {
     /// How many jobs there were so far.
     pub fn len(&self) -> usize
         ensures value { result ≡ self.now.jobs }
-        ensures few { self.now.jobs ≤ 64 }
+        ensures few { self.now.jobs ≤ CAPACITY }
     {
         self.jobs
+    }
+
+    pub fn is_empty(&self) -> bool
+        ensures { result ≡ (self.now.jobs == 0) }
+    {
+        self.jobs == 0
     }
 
     /// The tick at which the last job so far finishes.

@@ -2,27 +2,30 @@
 --
 --   lines_left s             the lines that s has still to give
 --   Accepted bytes r         r is the input, unless it is too long
---   words_left s             the words that s has still to give
---   past_end s               the place one past the last byte of the line that s reads
---   TakesOne old new         a reader has taken a word
+--   Rest                     what is left of a line that is being read
+--   rest s                   what s has still to read
+--   whole line               all of a line
+--   skip n r                 the rest r without its first n words
+--   first r                  its first word, if it has one
 --   piece w                  a word of the program as bytes and a place
 --   number_of w              the word w as a number, or its fault
 --   within low high n        the value of a number, held to a range
---   first_word past ws       the first word; a missing one is missed at `past`
---   first_number past ws     the same as a number
---   optional_number ws       the same, where no word need be there
---   none_left ws             no word may be left over
---   number_alone past ws     a number, and no word more
-use Rattle.std.specs.Prelude.{◌≡◌, ℕ, ◌+◌, ◌<◌, ◌≤◌, cond, ◌&&◌, List, [], ◌∷◌, length, drop, Some, None, Ok, Err, Option, Result, nat_le}
+--   first_word r             the first word; a missing one is missed at the end
+--   first_number r           the same as a number
+--   optional_number r        the same, where no word need be there
+--   none_left r              no word may be left over
+--   number_alone r           a number, and no word more
+use Rattle.std.specs.Prelude.{◌≡◌, ℕ, ◌+◌, ◌<◌, ◌≤◌, List, [], length, drop, Some, None, Ok, Err, Option, Result, ok_or}
+use Rattle.std.specs.List.{slice_get}
 use Rattle.std.specs.Borrow.{Bor}
 use Rattle.std.specs.Result.{result_map_both}
 use Rattle.words.specs.Bytes.{Piece, lines, words, number_in}
 use Rattle.words.specs.declared.fault.Cause.{Cause}
-use Rattle.words.specs.declared.fault.Cause.TheVariants.{Missing, Digits, Extra, Rule}
-use Rattle.jobs.specs.declared.refusal.Refusal.TheVariants.{Range}
+use Rattle.words.specs.declared.fault.Cause.TheVariants.{Missing, Digits, Extra}
+use Rattle.jobs.specs.Ranges.{in_range}
 use Rattle.words.specs.declared.fault.Fault.{Fault}
 use Rattle.words.specs.declared.fault.WordFault.{WordFault}
-use Rattle.words.specs.Faults.{too_long, then}
+use Rattle.words.specs.Faults.{too_long, broken_at, then}
 use Rattle.words.specs.declared.lines.Lines.{Lines}
 use Rattle.words.specs.declared.words.Number.{Number}
 use Rattle.words.specs.declared.words.Word.{Word}
@@ -44,16 +47,23 @@ Accepted bytes (Err f) = (65536 < length bytes) × (f ≡ too_long)
 abbrev pub piece : Word → Piece
 piece w = record { text = w.text.now; place = w.place }
 
-abbrev pub words_left : Words → List Piece
-words_left s = words (s.position + 1) (drop s.position s.line.now)
+-- what is left of a line: the words, and the place one past the last byte
+pub record Rest : Type 0 where
+  pub words : List Piece
+  pub end : ℕ
 
-abbrev pub past_end : Words → ℕ
-past_end s = length s.line.now + 1
+abbrev pub whole : List ℕ → Rest
+whole line = record { words = words 1 line; end = length line + 1 }
 
--- one word fewer is left, of the same line; where none was left, none is
-pub record TakesOne (old new : Words) : Type 0 where
-  pub left : words_left new ≡ drop 1 (words_left old)
-  pub end : past_end new ≡ past_end old
+abbrev pub rest : Words → Rest
+rest s = record { words = words (s.position + 1) (drop s.position s.line.now); end = length s.line.now + 1 }
+
+-- without the first n words: with none, if there are fewer
+abbrev pub skip : ℕ → Rest → Rest
+skip n r = record { words = drop n r.words; end = r.end }
+
+abbrev pub first : Rest → Option Piece
+first r = slice_get r.words 0
 
 abbrev pub fault_at : ℕ → Cause → WordFault
 fault_at p why = record { cause = why; place = p }
@@ -66,24 +76,20 @@ abbrev pub number_of : Piece → Result Number WordFault
 number_of w = number_at w.place (number_in w.text)
 
 abbrev pub within : ℕ → ℕ → Number → Result ℕ WordFault
-within low high n = cond (nat_le low n.value && nat_le n.value high) (Ok n.value) (Err (fault_at n.place (Rule Range)))
+within low high n = broken_at n.place (in_range low high n.value)
 
-abbrev pub first_word : ℕ → List Piece → Result Piece WordFault
-first_word past [] = Err (fault_at past Missing)
-first_word past (w ∷ ws) = Ok w
+abbrev pub first_word : Rest → Result Piece WordFault
+first_word r = ok_or (first r) (fault_at r.end Missing)
 
-abbrev pub first_number : ℕ → List Piece → Result Number WordFault
-first_number past [] = Err (fault_at past Missing)
-first_number past (w ∷ ws) = number_of w
+abbrev pub first_number : Rest → Result Number WordFault
+first_number r = then (first_word r) number_of
 
-abbrev pub optional_number : List Piece → Result (Option Number) WordFault
-optional_number [] = Ok None
-optional_number (w ∷ ws) = result_map_both Some (λ f. f) (number_of w)
+abbrev pub optional_number : Rest → Result (Option Number) WordFault
+optional_number r = elim (first r) [ None ↦ Ok None | Some w ↦ result_map_both Some (λ f. f) (number_of w) ]
 
-abbrev pub none_left : List Piece → Result (Unit {0}) WordFault
-none_left [] = Ok tt
-none_left (w ∷ ws) = Err (fault_at w.place Extra)
+abbrev pub none_left : Rest → Result (Unit {0}) WordFault
+none_left r = elim (first r) [ None ↦ Ok tt | Some w ↦ Err (fault_at w.place Extra) ]
 
 -- NUMBER, and no word more
-abbrev pub number_alone : ℕ → List Piece → Result Number WordFault
-number_alone past ws = then (first_number past ws) (λ n. then (none_left (drop 1 ws)) (λ _. Ok n))
+abbrev pub number_alone : Rest → Result Number WordFault
+number_alone r = then (first_number r) (λ n. then (none_left (skip 1 r)) (λ _. Ok n))

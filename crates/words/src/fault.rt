@@ -4,6 +4,7 @@ ghost use Rattle.words.specs.declared.fault.Cause.TheVariants.{Rule};
 ghost use Rattle.words.specs.Faults.{cause_number, cause_name, fault_in, broken_at, in_line, fault_text};
 
 use jobs::refusal::Refusal;
+use std::error::Error;
 use std::fmt;
 
 /// What is wrong with a word, or with the call that the line asks for.
@@ -77,6 +78,8 @@ impl fmt::Display for Cause {
     }
 }
 
+impl Error for Cause {}
+
 /// A fault of a word, which knows its place but not its line.
 #[derive(Clone, Copy, PartialEq, Eq, Debug)]
 pub struct WordFault {
@@ -129,3 +132,5 @@ impl fmt::Display for Fault {
         write!(f, "refused {number} {cause} {line} {place}")
     }
 }
+
+impl Error for Fault {}

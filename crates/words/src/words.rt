@@ -1,15 +1,15 @@
 //! The words of a line with their places, and the readers of numbers above them.
-ghost use Rattle.std.specs.Prelude.{◌≡◌, ◌+◌, ◌<◌, ◌≤◌, [], ◌∷◌, length, drop, IfOk, IfSome, OnOk, MatchOption, ◌≢◌, slice_index};
+ghost use Rattle.std.specs.Prelude.{◌≡◌, ◌+◌, ◌<◌, ◌≤◌, [], length, drop, IfOk, IfSome, OnOk, MatchOption, ◌≢◌, slice_index};
+ghost use Rattle.std.specs.Option.{option_map};
 ghost use Rattle.std.specs.Result.{result_map_both};
 ghost use Rattle.words.specs.Bytes.{words};
 ghost use Rattle.std.specs.Str.{bytes_eq};
-ghost use Rattle.words.specs.Readers.{piece, words_left, past_end, TakesOne, within, number_of, first_word, first_number, optional_number, none_left, number_alone};
+ghost use Rattle.words.specs.Readers.{piece, rest, whole, skip, first, within, number_of, first_word, first_number, optional_number, none_left, number_alone};
 ghost use Rattle.std.specs.Iterator.{at_most};
 
 use crate::bytes::{before, number};
-use crate::fault::{Cause, WordFault};
+use crate::fault::{Cause, WordFault, placed};
 use jobs::ranges::Bounds;
-use jobs::refusal::Refusal;
 
 /// The bytes between two spaces, and the place of the first, counted from 1 in the line.
 #[derive(Clone, Copy, Debug)]
@@ -31,11 +31,7 @@ impl Number {
         ensures value { result ≡ within bounds.least bounds.most self }
         ensures bounds { IfOk result (λ n. (bounds.least ≤ n) × (n ≤ bounds.most)) }
     {
-        if bounds.contains(self.value) {
-            Ok(self.value)
-        } else {
-            Err(Cause::from(Refusal::Range).at(self.place))
-        }
+        placed(bounds.accept(self.value), self.place)
     }
 }
 
@@ -76,41 +72,40 @@ pub struct Words<'a> {
 
 impl<'a> Words<'a> {
     pub fn new(line: &'a [u8]) -> Words<'a>
-        ensures left { words_left result ≡ words 1 line.now }
-        ensures end { past_end result ≡ length line.now + 1 }
+        ensures { rest result ≡ whole line.now }
     {
         Words { line, position: 0 }
     }
 
     /// The next word. If there is none, it is missing one past the end of the line.
     pub fn word(&mut self) -> Result<Word<'a>, WordFault>
-        ensures value { result_map_both piece (λ f. f) result ≡ first_word (past_end self.old) (words_left self.old) }
-        ensures taken { TakesOne self.old self.new }
+        ensures value { result_map_both piece (λ f. f) result ≡ first_word (rest self.old) }
+        ensures left { rest self.new ≡ skip 1 (rest self.old) }
     {
         self.next().ok_or(Cause::Missing.at(self.line.len() + 1))
     }
 
     /// The next word as a number. If there is none, it is missing one past the end of the line.
     pub fn number(&mut self) -> Result<Number, WordFault>
-        ensures value { result ≡ first_number (past_end self.old) (words_left self.old) }
-        ensures taken { TakesOne self.old self.new }
+        ensures value { result ≡ first_number (rest self.old) }
+        ensures left { rest self.new ≡ skip 1 (rest self.old) }
     {
         self.word()?.number()
     }
 
     /// The next word as a number, if there is one.
     pub fn optional_number(&mut self) -> Result<Option<Number>, WordFault>
-        ensures value { result ≡ optional_number (words_left self.old) }
-        ensures taken { TakesOne self.old self.new }
+        ensures value { result ≡ optional_number (rest self.old) }
+        ensures left { rest self.new ≡ skip 1 (rest self.old) }
     {
         self.next().map(|word| word.number()).transpose()
     }
 
     /// The next word as a number, and no word more.
     pub fn only_number(&mut self) -> Result<Number, WordFault>
-        ensures value { result ≡ number_alone (past_end self.old) (words_left self.old) }
-        ensures read { OnOk result (words_left self.new ≡ []) }
-        ensures end { past_end self.new ≡ past_end self.old }
+        ensures value { result ≡ number_alone (rest self.old) }
+        ensures read { OnOk result ((rest self.new).words ≡ []) }
+        ensures end { (rest self.new).end ≡ (rest self.old).end }
     {
         let number = self.number()?;
         self.end()?;
@@ -119,8 +114,8 @@ impl<'a> Words<'a> {
 
     /// Refuses a word that is left over.
     pub fn end(&mut self) -> Result<(), WordFault>
-        ensures value { result ≡ none_left (words_left self.old) }
-        ensures taken { TakesOne self.old self.new }
+        ensures value { result ≡ none_left (rest self.old) }
+        ensures left { rest self.new ≡ skip 1 (rest self.old) }
     {
         match self.next() {
             Some(word) => Err(Cause::Extra.at(word.place)),
@@ -132,9 +127,9 @@ impl<'a> Words<'a> {
 impl<'a> Iterator for Words<'a> {
     type Item = Word<'a>;
 
-    ghost next_gives = { λ s r t. MatchOption r ((words_left s ≡ []) × (words_left t ≡ [])) (λ w. words_left s ≡ piece w ∷ words_left t) × (past_end t ≡ past_end s) };
+    ghost next_gives = { λ s r t. (option_map piece r ≡ first (rest s)) × (rest t ≡ skip 1 (rest s)) };
 
-    ghost remaining = { λ s. at_most (length (words_left s)) };
+    ghost remaining = { λ s. at_most (length (rest s).words) };
 
     #[tactic(auto, using(crate::proofs::Spacing::word_read))]
     fn next(&mut self) -> Option<Word<'a>> {

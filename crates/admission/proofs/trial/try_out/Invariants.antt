@@ -1,14 +1,12 @@
-use Rattle.jobs.specs.Records.{number}
-use Rattle.rankings.specs.Ranked.{before}
-use Rattle.rankings.specs.Rankings.{by_mark}
 use Rattle.stores.specs.Places.{jobs_left}
+use Rattle.admission.specs.Disciplines.{by_dispatch}
 use Rattle.admission.specs.Trials.{turn}
 use Rattle.admission.proofs.Trying.{Under}
 use Rattle.admission.proofs.trial.try_out.Given as goal
 
 abbrev pub invariant-loop-other : goal.invariant-loop-other
 invariant-loop-other g l =
-    let first = before (by_mark (g.O.Ranking.may l.order.0)) number in
+    let first = by_dispatch g.O.Ranking l.order in
     let jobs = g.S.ReadyStore.jobs in
     (goal.iterator-loop-other g).can_next l.other-iterator
     × (goal.iterator-loop-other g).is_finite l.other-iterator

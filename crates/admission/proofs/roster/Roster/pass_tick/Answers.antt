@@ -11,7 +11,7 @@ pub returns-in_err-expire-clause-step : goal.returns-in_err-expire-clause-step
 returns-in_err-expire-clause-step g c =
     let d = c.args.discipline.now in
     let ρ = parts g.O.Ranking (policy_of g.P.Ranking.may g.P.Policy.spared) d in
-    let laws = lawful_parts g.O.Ranking (policy_of g.P.Ranking.may g.P.Policy.spared) d (record { total = g.met.O.Ranking.total d.order.0; transitive = g.met.O.Ranking.transitive d.order.0 }) (record { total = g.met.P.Ranking.total d.policy; transitive = g.met.P.Ranking.transitive d.policy }) in
+    let laws = lawful_parts g.O.Ranking (policy_of g.P.Ranking.may g.P.Policy.spared) g.met.O.Ranking.total g.met.O.Ranking.transitive g.met.P.Ranking.total g.met.P.Ranking.transitive d in
     let was = roster_state g.S.ReadyStore.jobs c.args.self.now in
     let p = err_from_is_err_and c.from_residual-in_err-expire.result c.from_residual-in_err-expire.ensures.1 in
     rw p.1 (λ f. absurd (omega (arith, room_to_expire ρ laws was f _ _ (c.in_ok-done.ensures.step.1 (all_lasting was f)), c.in_err-expire.ensures.step)))
@@ -20,7 +20,7 @@ pub returns-in_err-sweep-clause-step : goal.returns-in_err-sweep-clause-step
 returns-in_err-sweep-clause-step g c =
     let d = c.args.discipline.now in
     let ρ = parts g.O.Ranking (policy_of g.P.Ranking.may g.P.Policy.spared) d in
-    let laws = lawful_parts g.O.Ranking (policy_of g.P.Ranking.may g.P.Policy.spared) d (record { total = g.met.O.Ranking.total d.order.0; transitive = g.met.O.Ranking.transitive d.order.0 }) (record { total = g.met.P.Ranking.total d.policy; transitive = g.met.P.Ranking.transitive d.policy }) in
+    let laws = lawful_parts g.O.Ranking (policy_of g.P.Ranking.may g.P.Policy.spared) g.met.O.Ranking.total g.met.O.Ranking.transitive g.met.P.Ranking.total g.met.P.Ranking.transitive d in
     let was = roster_state g.S.ReadyStore.jobs c.args.self.now in
     let p = err_from_is_err_and c.from_residual-in_err-sweep.result c.from_residual-in_err-sweep.ensures.1 in
     rw p.1 (λ f. absurd (omega (arith, room_to_sweep ρ laws was f _ _ (c.in_ok-done.ensures.step.1 (all_lasting was f)) _ c.in_ok-expire.ensures.step, c.in_err-sweep.ensures.step)))
@@ -29,7 +29,7 @@ pub returns-clause-step : goal.returns-clause-step
 returns-clause-step g c =
     let d = c.args.discipline.now in
     let ρ = parts g.O.Ranking (policy_of g.P.Ranking.may g.P.Policy.spared) d in
-    let laws = lawful_parts g.O.Ranking (policy_of g.P.Ranking.may g.P.Policy.spared) d (record { total = g.met.O.Ranking.total d.order.0; transitive = g.met.O.Ranking.transitive d.order.0 }) (record { total = g.met.P.Ranking.total d.policy; transitive = g.met.P.Ranking.transitive d.policy }) in
+    let laws = lawful_parts g.O.Ranking (policy_of g.P.Ranking.may g.P.Policy.spared) g.met.O.Ranking.total g.met.O.Ranking.transitive g.met.P.Ranking.total g.met.P.Ranking.transitive d in
     let was = roster_state g.S.ReadyStore.jobs c.args.self.now in
     let expired = ap (λ s. s.clock) c.in_ok-expire.ensures.step in
     elim c.if-done.branch [

@@ -10,6 +10,6 @@ pub returns : goal.returns
 returns g c =
     let d = c.args.self.now.discipline in
     let ρ = parts g.O.Ranking (policy_of g.P.Ranking.may g.P.Policy.spared) d in
-    let laws = lawful_parts g.O.Ranking (policy_of g.P.Ranking.may g.P.Policy.spared) d (record { total = g.met.O.Ranking.total d.order.0; transitive = g.met.O.Ranking.transitive d.order.0 }) (record { total = g.met.P.Ranking.total d.policy; transitive = g.met.P.Ranking.transitive d.policy }) in
+    let laws = lawful_parts g.O.Ranking (policy_of g.P.Ranking.may g.P.Policy.spared) g.met.O.Ranking.total g.met.O.Ranking.transitive g.met.P.Ranking.total g.met.P.Ranking.transitive d in
     let s = view g.S.ReadyStore.jobs c.args.self.now in
     record { same = refl; serves = collected ρ laws s (listed c.take_first.new.self) c.take_first.result c.take_first.ensures }

@@ -10,10 +10,8 @@ use Rattle.scheduler.proofs.scheduler.Scheduler.finish.Given.{Over}
 use Rattle.scheduler.proofs.scheduler.Scheduler.finish.Goals as goal
 
 laws_of : (g : Over) (d : Discipline g.row.O.Denot g.row.P.Denot) → LawfulParts (parts g.O.Ranking (policy_of g.P.Ranking.may g.P.Policy.spared) d)
-laws_of g d =
-    lawful_parts g.O.Ranking (policy_of g.P.Ranking.may g.P.Policy.spared) d
-    (record { total = g.met.O.Ranking.total d.order.0; transitive = g.met.O.Ranking.transitive d.order.0 })
-    (record { total = g.met.P.Ranking.total d.policy; transitive = g.met.P.Ranking.transitive d.policy })
+laws_of g =
+    lawful_parts g.O.Ranking (policy_of g.P.Ranking.may g.P.Policy.spared) g.met.O.Ranking.total g.met.O.Ranking.transitive g.met.P.Ranking.total g.met.P.Ranking.transitive
 
 pub returns-in_err-name : goal.returns-in_err-name
 returns-in_err-name g c =
