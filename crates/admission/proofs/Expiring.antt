@@ -52,6 +52,6 @@ module _ (t : ℕ) where
         | inr w ↦ let more = done w.2 ps w.3 es' (Err e) w.5 in omega (arith, ap length w.4.1, longer w.0 (ends t Missed j) es)
       ]
 
-pub expired_in_turn : (s : State) (ps' : List Job) (es' : List Ending) (r : Result (Unit {0}) Refusal) → Retains (One s.clock) tt s.ended s.parked ps' es' r → Expires s (state s.clock s.ready ps' es') r
+pub expired_in_turn : (s : State) (ps' : List Job) (es' : List Ending) (r : Result (Unit {0}) Refusal) → Retains (One s.clock) tt s.ended s.parked ps' es' r → Expires r s (state s.clock s.ready ps' es')
 expired_in_turn s ps' es' (Ok u) h = let d = done s.clock s.ended s.parked ps' es' (Ok u) h in λ k. state s.clock s.ready (d.0 k) (d.1 k)
 expired_in_turn s ps' es' (Err e) h = done s.clock s.ended s.parked ps' es' (Err e) h

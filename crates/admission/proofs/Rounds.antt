@@ -39,6 +39,6 @@ module _ (ρ : Parts) (t : ℕ) where
         | inr w ↦ let more = done w.2 ps w.3 rs' (Err e) w.5 in omega (arith, ap length w.4.1, longer w.0 j rs)
       ]
 
-pub swept_in_turn : (ρ : Parts) (s : State) (ps' rs' : List Job) (r : Result (Unit {0}) Refusal) → Retains (One ρ s.clock) tt s.ready s.parked ps' rs' r → Sweeps ρ s (state s.clock rs' ps' s.ended) r
+pub swept_in_turn : (ρ : Parts) (s : State) (ps' rs' : List Job) (r : Result (Unit {0}) Refusal) → Retains (One ρ s.clock) tt s.ready s.parked ps' rs' r → Sweeps ρ r s (state s.clock rs' ps' s.ended)
 swept_in_turn ρ s ps' rs' (Ok u) h = let d = done ρ s.clock s.ready s.parked ps' rs' (Ok u) h in λ k. state s.clock (d k).ready (d k).parked s.ended
 swept_in_turn ρ s ps' rs' (Err e) h = done ρ s.clock s.ready s.parked ps' rs' (Err e) h

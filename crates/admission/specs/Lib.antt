@@ -3,3 +3,4 @@ pub mod Retaining
 pub mod Rosters
 pub mod Steps
 pub mod Trials
+pub mod Written

@@ -1,6 +1,6 @@
 -- What is left of a list of jobs once a test that may be refused was asked of each in turn.
 --
--- The test changes a state: `call f s x r f' t` says that it, as f and at the state s, answers r of the job x, and is f' then, with the state t.
+-- The test changes a state: `call f s x r f' t` says that the test f, asked of x in the state s, answers r, and leaves itself as f' and the state as t.
 use Rattle.std.specs.Prelude.{◌≡◌, Bool, cond, ◌⊎◌, List, [], ◌∷◌, Ok, Err, Result}
 use Rattle.jobs.specs.declared.job.Job.{Job}
 use Rattle.jobs.specs.declared.refusal.Refusal.{Refusal}

@@ -36,38 +36,39 @@ with_parked ps s = state s.clock s.ready ps s.ended
 abbrev pub with_ended : List Ending → State → State
 with_ended es s = state s.clock s.ready s.parked es
 
--- what a step leaves alone, also where it is refused
+-- what a step leaves alone, also where it is refused: the clock, and some of the lists
 
 abbrev pub KeepsClock : State → State → Type 0
 KeepsClock s s' = s'.clock ≡ s.clock
 
-abbrev pub KeepsEndings : State → State → Type 0
-KeepsEndings s s' = (s'.clock ≡ s.clock) × (s'.ended ≡ s.ended)
-
-abbrev pub KeepsOthers : State → State → Type 0
-KeepsOthers s s' = (s'.clock ≡ s.clock) × (s'.parked ≡ s.parked) × (s'.ended ≡ s.ended)
-
--- the clock of a scheduler does not leave its range
-abbrev pub KeepsRange : State → State → Type 0
-KeepsRange s s' = s.clock ≤ 1000000000 → s'.clock ≤ 1000000000
-
 abbrev pub KeepsReady : State → State → Type 0
 KeepsReady s s' = (s'.clock ≡ s.clock) × (s'.ready ≡ s.ready)
 
+abbrev pub KeepsEndings : State → State → Type 0
+KeepsEndings s s' = (s'.clock ≡ s.clock) × (s'.ended ≡ s.ended)
+
+-- all but the ready jobs
+abbrev pub KeepsOthers : State → State → Type 0
+KeepsOthers s s' = (s'.clock ≡ s.clock) × (s'.parked ≡ s.parked) × (s'.ended ≡ s.ended)
+
+-- a clock within its range stays within it
+abbrev pub KeepsRange : State → State → Type 0
+KeepsRange s s' = s.clock ≤ 1000000000 → s'.clock ≤ 1000000000
+
 -- BECOMING READY
 
-abbrev pub Enqueues : Parts → Job → State → State → Result (Unit {0}) Refusal → Type 0
-Enqueues ρ j s s' (Ok _) = s' ≡ with_ready (place ρ j s.ready) s
-Enqueues ρ j s s' (Err e) = 64 ≤ length s.ready
+abbrev pub Enqueues : Parts → Job → Result (Unit {0}) Refusal → State → State → Type 0
+Enqueues ρ j (Ok _) s s' = s' ≡ with_ready (place ρ j s.ready) s
+Enqueues ρ j (Err e) s s' = 64 ≤ length s.ready
 
 -- the parked job j becomes one of the ready jobs rs if it fits, and else stays parked
 abbrev pub SweepsOne : Parts → ℕ → Job → List Job → List Job → Result Bool Refusal → Type 0
 SweepsOne ρ t j rs rs' (Ok stays) = (stays ≡ not (fits ρ t rs j)) × (rs' ≡ cond stays rs (place ρ j rs))
 SweepsOne ρ t j rs rs' (Err e) = 64 ≤ length rs
 
-abbrev pub Sweeps : Parts → State → State → Result (Unit {0}) Refusal → Type 0
-Sweeps ρ s s' (Ok _) = swept ρ s ≡ s'
-Sweeps ρ s s' (Err e) = 64 < length s.ready + length s.parked
+abbrev pub Sweeps : Parts → Result (Unit {0}) Refusal → State → State → Type 0
+Sweeps ρ (Ok _) s s' = swept ρ s ≡ s'
+Sweeps ρ (Err e) s s' = 64 < length s.ready + length s.parked
 
 -- GIVING WAY
 
@@ -105,15 +106,15 @@ pub record WayMade (ρ : Parts) (j : Job) (vs : List Job) (s s' : State) (k : �
 abbrev pub crowd : List Job → List Job → List Job → ℕ
 crowd vs rs ps = 1 + (length (without vs rs) + (length vs + length ps))
 
-abbrev pub MakesWay : Parts → Job → List Job → State → State → Result ℕ Refusal → Type 0
-MakesWay ρ j vs s s' (Ok k) = WayMade ρ j vs s s' k
-MakesWay ρ j vs s s' (Err e) = 64 < crowd vs s.ready s.parked
+abbrev pub MakesWay : Parts → Job → List Job → Result ℕ Refusal → State → State → Type 0
+MakesWay ρ j vs (Ok k) s s' = WayMade ρ j vs s s' k
+MakesWay ρ j vs (Err e) s s' = 64 < crowd vs s.ready s.parked
 
 -- room is made for j, or nothing helps
-abbrev pub Gives : Parts → Job → State → State → Result (Option ℕ) Refusal → Type 0
-Gives ρ j s s' (Ok (Some k)) = (v : Job) × (vs : List Job) × (victims ρ s j ≡ v ∷ vs) × WayMade ρ j (v ∷ vs) s s' k
-Gives ρ j s s' (Ok None) = (victims ρ s j ≡ []) × (s' ≡ s)
-Gives ρ j s s' (Err e) = length s.ready < 64 → 64 < crowd (victims ρ s j) s.ready s.parked
+abbrev pub Gives : Parts → Job → Result (Option ℕ) Refusal → State → State → Type 0
+Gives ρ j (Ok (Some k)) s s' = (v : Job) × (vs : List Job) × (victims ρ s j ≡ v ∷ vs) × WayMade ρ j (v ∷ vs) s s' k
+Gives ρ j (Ok None) s s' = (victims ρ s j ≡ []) × (s' ≡ s)
+Gives ρ j (Err e) s s' = length s.ready < 64 → 64 < crowd (victims ρ s j) s.ready s.parked
 
 -- ARRIVING
 
@@ -126,9 +127,9 @@ abbrev pub told : Admission → Answer
 told a = told_by a.verdict (exceeding_of a.overrun) (cause_of a.overrun)
 
 -- exactly as the rules say, wherever fewer than 64 jobs are known and no ready number stands twice
-abbrev pub Admits : Parts → Job → State → State → Result Admission Refusal → Type 0
-Admits ρ j s s' (Ok a) = admit ρ s j ≡ answers (told a) s'
-Admits ρ j s s' (Err e) = length s.ready + length s.parked < 64 → ((n : ℕ) → count (has n) s.ready ≤ 1) → ⊥
+abbrev pub Admits : Parts → Job → Result Admission Refusal → State → State → Type 0
+Admits ρ j (Ok a) s s' = admit ρ s j ≡ answers (told a) s'
+Admits ρ j (Err e) s s' = length s.ready + length s.parked < 64 → ((n : ℕ) → count (has n) s.ready ≤ 1) → ⊥
 
 -- ENDING
 
@@ -158,9 +159,9 @@ pub record ReadyEnded (ρ : Parts) (place : ℕ) (k : EndKind) (s s' : State) (j
   pub job : j ≡ slice_index_or s.ready place blank
   pub state : swept ρ (with_ready (remove s.ready place) (with_line k j s)) ≡ s'
 
-abbrev pub EndsReady : Parts → ℕ → EndKind → State → State → Result Job Refusal → Type 0
-EndsReady ρ place k s s' (Ok j) = ReadyEnded ρ place k s s' j
-EndsReady ρ place k s s' (Err e) = place < length s.ready → 64 < population s
+abbrev pub EndsReady : Parts → ℕ → EndKind → Result Job Refusal → State → State → Type 0
+EndsReady ρ place k (Ok j) s s' = ReadyEnded ρ place k s s' j
+EndsReady ρ place k (Err e) s s' = place < length s.ready → 64 < population s
 
 -- the parked job j, which stood at a place, has ended
 pub record ParkedEnded (place : ℕ) (k : EndKind) (s s' : State) (j : Job) : Type 0 where
@@ -168,18 +169,18 @@ pub record ParkedEnded (place : ℕ) (k : EndKind) (s s' : State) (j : Job) : Ty
   pub job : j ≡ slice_index_or s.parked place blank
   pub state : with_parked (remove s.parked place) (with_line k j s) ≡ s'
 
-abbrev pub EndsParked : ℕ → EndKind → State → State → Result Job Refusal → Type 0
-EndsParked place k s s' (Ok j) = ParkedEnded place k s s' j
-EndsParked place k s s' (Err e) = place < length s.parked → 64 ≤ length s.ended
+abbrev pub EndsParked : ℕ → EndKind → Result Job Refusal → State → State → Type 0
+EndsParked place k (Ok j) s s' = ParkedEnded place k s s' j
+EndsParked place k (Err e) s s' = place < length s.parked → 64 ≤ length s.ended
 
 -- the parked job j ends as missed if it can no longer make its limit, and else stays parked
 abbrev pub ExpiresOne : ℕ → Job → List Ending → List Ending → Result Bool Refusal → Type 0
 ExpiresOne t j es es' (Ok stays) = (stays ≡ not (late t j)) × (es' ≡ cond stays es (insert ended_order (ends t Missed j) es))
 ExpiresOne t j es es' (Err e) = 64 ≤ length es
 
-abbrev pub Expires : State → State → Result (Unit {0}) Refusal → Type 0
-Expires s s' (Ok _) = expire s ≡ s'
-Expires s s' (Err e) = 64 < length s.parked + length s.ended
+abbrev pub Expires : Result (Unit {0}) Refusal → State → State → Type 0
+Expires (Ok _) s s' = expire s ≡ s'
+Expires (Err e) s s' = 64 < length s.parked + length s.ended
 
 -- WORKING
 
@@ -191,10 +192,10 @@ pub record FirstWorked (s s' : State) (b : Bool) : Type 0 where
 abbrev pub Lasting : Job → Type 0
 Lasting j = (1 ≤ j.remaining) × (j.remaining ≤ j.computation)
 
-abbrev pub WorksFirst : State → State → Result Bool Refusal → Type 0
-WorksFirst s s' (Ok done) = (s'.clock ≡ s.clock) × (Every Lasting s.ready → FirstWorked s s' done)
-WorksFirst s s' (Err e) = Every Lasting s.ready → 64 < length s.ready + length s.ended
+abbrev pub WorksFirst : Result Bool Refusal → State → State → Type 0
+WorksFirst (Ok done) s s' = (s'.clock ≡ s.clock) × (Every Lasting s.ready → FirstWorked s s' done)
+WorksFirst (Err e) s s' = Every Lasting s.ready → 64 < length s.ready + length s.ended
 
-abbrev pub Ticks : Parts → State → State → Result ℕ Refusal → Type 0
-Ticks ρ s s' (Ok t) = (t ≡ s.clock + 1) × (t ≤ 1000000000) × (t ≡ s'.clock) × (Fields s → tick ρ s ≡ s')
-Ticks ρ s s' (Err e) = Fields s → (1000000000 ≤ s.clock) × (s' ≡ s)
+abbrev pub Ticks : Parts → Result ℕ Refusal → State → State → Type 0
+Ticks ρ (Ok t) s s' = (t ≡ s.clock + 1) × (t ≤ 1000000000) × (t ≡ s'.clock) × (Fields s → tick ρ s ≡ s')
+Ticks ρ (Err e) s s' = Fields s → (1000000000 ≤ s.clock) × (s' ≡ s)

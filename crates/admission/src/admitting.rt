@@ -1,7 +1,9 @@
 //! The decision on an arrival.
+ghost use Rattle.std.specs.Prelude.{Some};
 ghost use Rattle.admission.specs.Disciplines.{parts};
-ghost use Rattle.admission.specs.Rosters.{roster_state};
+ghost use Rattle.admission.specs.Rosters.{Leads};
 ghost use Rattle.admission.specs.Steps.{Admits, KeepsEndings};
+ghost use Rattle.admission.specs.Written.{admission_text};
 
 use crate::discipline::Discipline;
 use crate::roster::Roster;
@@ -11,6 +13,7 @@ use jobs::refusal::Refusal;
 use rankings::lists::LargerValue;
 use rankings::policies::Policy;
 use rankings::ranking::Ranking;
+use std::fmt;
 use stores::ready::ReadyStore;
 use timing::overrun::Overrun;
 
@@ -31,6 +34,21 @@ pub struct Admission {
     pub overrun: Option<Overrun>,
 }
 
+/// An admission is written as `VERDICT E CAUSE COUNT`: 0 where nothing is exceeded, and where nobody is displaced.
+impl fmt::Display for Admission {
+    ghost output = { λ a. Some (admission_text a) };
+
+    fn fmt<W: fmt::Write>(&self, f: &mut fmt::Formatter<W>) -> fmt::Result {
+        let (verdict, count) = match self.verdict {
+            Verdict::Ready { displaced: count } => ("ready", count),
+            Verdict::Parked => ("parked", 0),
+        };
+        let exceeding = self.overrun.map_or(0, |overrun| overrun.by);
+        let cause = self.overrun.map_or(0, |overrun| overrun.cause);
+        write!(f, "{verdict} {exceeding} {cause} {count}")
+    }
+}
+
 impl<S: ReadyStore> Roster<S> {
     /// Decides on an arrival: it becomes ready if it fits or others can give way, and is parked otherwise.
     pub fn admit<O: Ranking<Item = Mark>, P: Policy>(
@@ -38,8 +56,8 @@ impl<S: ReadyStore> Roster<S> {
         discipline: &Discipline<O, P>,
         job: Job,
     ) -> Result<Admission, Refusal>
-        ensures step { Admits (parts O.Ranking P.Policy discipline.now) job (roster_state S.ReadyStore.jobs self.old) (roster_state S.ReadyStore.jobs self.new) result }
-        ensures apart { KeepsEndings (roster_state S.ReadyStore.jobs self.old) (roster_state S.ReadyStore.jobs self.new) }
+        ensures step { Leads S.ReadyStore (Admits (parts O.Ranking P.Policy discipline.now) job result) self.old self.new }
+        ensures apart { Leads S.ReadyStore KeepsEndings self.old self.new }
     {
         let trial = try_whole(&discipline.order, &self.ready, self.clock, &job)?;
         let overrun = trial.overrun;

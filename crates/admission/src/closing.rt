@@ -3,7 +3,7 @@ ghost use Rattle.std.specs.Prelude.{◌≡◌};
 ghost use Rattle.rules.specs.Calls.{ends, late};
 ghost use Rattle.stores.specs.Tables.{listed};
 ghost use Rattle.admission.specs.Disciplines.{parts};
-ghost use Rattle.admission.specs.Rosters.{roster_state};
+ghost use Rattle.admission.specs.Rosters.{Leads};
 ghost use Rattle.admission.specs.Steps.{Finds, Ends, EndsReady, EndsParked, ExpiresOne, Expires, KeepsClock, KeepsReady};
 
 use crate::discipline::Discipline;
@@ -67,8 +67,8 @@ impl<S: ReadyStore> Roster<S> {
         place: usize,
         kind: EndKind,
     ) -> Result<Job, Refusal>
-        ensures step { EndsReady (parts O.Ranking P.Policy discipline.now) place kind (roster_state S.ReadyStore.jobs self.old) (roster_state S.ReadyStore.jobs self.new) result }
-        ensures apart { KeepsClock (roster_state S.ReadyStore.jobs self.old) (roster_state S.ReadyStore.jobs self.new) }
+        ensures step { Leads S.ReadyStore (EndsReady (parts O.Ranking P.Policy discipline.now) place kind result) self.old self.new }
+        ensures apart { Leads S.ReadyStore KeepsClock self.old self.new }
     {
         let job = end(&mut self.ready, place, &mut self.ended, kind, self.clock)?;
         self.sweep(discipline)?;
@@ -77,16 +77,16 @@ impl<S: ReadyStore> Roster<S> {
 
     /// Ends the parked job at `place`, and answers it.
     pub fn end_parked(&mut self, place: usize, kind: EndKind) -> Result<Job, Refusal>
-        ensures step { EndsParked place kind (roster_state S.ReadyStore.jobs self.old) (roster_state S.ReadyStore.jobs self.new) result }
-        ensures apart { KeepsReady (roster_state S.ReadyStore.jobs self.old) (roster_state S.ReadyStore.jobs self.new) }
+        ensures step { Leads S.ReadyStore (EndsParked place kind result) self.old self.new }
+        ensures apart { Leads S.ReadyStore KeepsReady self.old self.new }
     {
         end(&mut self.parked, place, &mut self.ended, kind, self.clock)
     }
 
     /// Ends as missed each parked job that can no longer make its limit.
     pub fn expire(&mut self) -> Result<(), Refusal>
-        ensures step { Expires (roster_state S.ReadyStore.jobs self.old) (roster_state S.ReadyStore.jobs self.new) result }
-        ensures apart { KeepsReady (roster_state S.ReadyStore.jobs self.old) (roster_state S.ReadyStore.jobs self.new) }
+        ensures step { Leads S.ReadyStore (Expires result) self.old self.new }
+        ensures apart { Leads S.ReadyStore KeepsReady self.old self.new }
     {
         let tick = self.clock;
         try_retain(

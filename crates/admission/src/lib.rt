@@ -1,6 +1,6 @@
 //! What a scheduler does to its lists: trials, sweeps, giving way, ends and ticks.
 //!
-//! Most are methods of a roster, the clock and the lists of a scheduler, and are passed the discipline by which it decides.
+//! Most are methods of `Roster`, a scheduler's clock and lists, and take the discipline by which the scheduler decides.
 #![tactic(auto)]
 
 pub mod admitting;

@@ -1,5 +1,5 @@
 //! What a scheduler keeps: its clock and its jobs.
-ghost use Rattle.std.specs.Prelude.{◌≡◌, ◌≤◌};
+ghost use Rattle.std.specs.Prelude.{◌≡◌};
 ghost use Rattle.rules.specs.States.{start};
 
 use stores::ready::ReadyStore;

@@ -1,6 +1,6 @@
 //! Jobs that become ready: one alone, and all parked jobs that fit.
 ghost use Rattle.admission.specs.Disciplines.{parts};
-ghost use Rattle.admission.specs.Rosters.{roster_state};
+ghost use Rattle.admission.specs.Rosters.{Leads};
 ghost use Rattle.admission.specs.Steps.{Enqueues, SweepsOne, Sweeps, KeepsEndings, KeepsOthers};
 
 use crate::discipline::Discipline;
@@ -20,8 +20,8 @@ impl<S: ReadyStore> Roster<S> {
         discipline: &Discipline<O, P>,
         job: Job,
     ) -> Result<(), Refusal>
-        ensures step { Enqueues (parts O.Ranking P.Policy discipline.now) job (roster_state S.ReadyStore.jobs self.old) (roster_state S.ReadyStore.jobs self.new) result }
-        ensures apart { KeepsOthers (roster_state S.ReadyStore.jobs self.old) (roster_state S.ReadyStore.jobs self.new) }
+        ensures step { Leads S.ReadyStore (Enqueues (parts O.Ranking P.Policy discipline.now) job result) self.old self.new }
+        ensures apart { Leads S.ReadyStore KeepsOthers self.old self.new }
     {
         let place = try_whole(&discipline.order, &self.ready, self.clock, &job)?.place;
         self.ready.insert(place, job)?;
@@ -33,8 +33,8 @@ impl<S: ReadyStore> Roster<S> {
         &mut self,
         discipline: &Discipline<O, P>,
     ) -> Result<(), Refusal>
-        ensures step { Sweeps (parts O.Ranking P.Policy discipline.now) (roster_state S.ReadyStore.jobs self.old) (roster_state S.ReadyStore.jobs self.new) result }
-        ensures apart { KeepsEndings (roster_state S.ReadyStore.jobs self.old) (roster_state S.ReadyStore.jobs self.new) }
+        ensures step { Leads S.ReadyStore (Sweeps (parts O.Ranking P.Policy discipline.now) result) self.old self.new }
+        ensures apart { Leads S.ReadyStore KeepsEndings self.old self.new }
     {
         let tick = self.clock;
         try_retain(

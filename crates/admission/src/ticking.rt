@@ -1,6 +1,6 @@
 //! One tick of work.
 ghost use Rattle.admission.specs.Disciplines.{parts};
-ghost use Rattle.admission.specs.Rosters.{roster_state};
+ghost use Rattle.admission.specs.Rosters.{Leads};
 ghost use Rattle.admission.specs.Steps.{WorksFirst, Ticks, KeepsClock, KeepsRange};
 
 use crate::closing::end;
@@ -17,13 +17,12 @@ use stores::ready::ReadyStore;
 impl<S: ReadyStore> Roster<S> {
     /// Works the first ready job, if any, for the tick that ends now; answers whether it ended.
     fn work_first(&mut self) -> Result<bool, Refusal>
-        ensures step { WorksFirst (roster_state S.ReadyStore.jobs self.old) (roster_state S.ReadyStore.jobs self.new) result }
-        ensures apart { KeepsClock (roster_state S.ReadyStore.jobs self.old) (roster_state S.ReadyStore.jobs self.new) }
+        ensures step { Leads S.ReadyStore (WorksFirst result) self.old self.new }
+        ensures apart { Leads S.ReadyStore KeepsClock self.old self.new }
     {
-        if self.ready.is_empty() {
+        let Some(first) = self.ready.iter().next() else {
             return Ok(false);
-        }
-        let first = self.ready.read(0)?;
+        };
         if first.remaining > 1 {
             self.ready.set_remaining(0, first.remaining - 1)?;
             return Ok(false);
@@ -43,8 +42,8 @@ impl<S: ReadyStore> Roster<S> {
         &mut self,
         discipline: &Discipline<O, P>,
     ) -> Result<u32, Refusal>
-        ensures step { Ticks (parts O.Ranking P.Policy discipline.now) (roster_state S.ReadyStore.jobs self.old) (roster_state S.ReadyStore.jobs self.new) result }
-        ensures range { KeepsRange (roster_state S.ReadyStore.jobs self.old) (roster_state S.ReadyStore.jobs self.new) }
+        ensures step { Leads S.ReadyStore (Ticks (parts O.Ranking P.Policy discipline.now) result) self.old self.new }
+        ensures range { Leads S.ReadyStore KeepsRange self.old self.new }
     {
         if self.clock >= LAST_TICK {
             return Err(Refusal::Horizon);

@@ -1,23 +1,27 @@
-//! A program that answers its standard input on its standard output.
+//! A program that answers its input.
 #![tactic(auto)]
+
+ghost use Rattle.std.specs.Prelude.{OnOk};
+ghost use Rattle.answering.specs.Answering.{Answers};
 
 use std::alloc::{AllocError, Global};
 use std::io::{Read, Write};
 
-/// Reads at most `limit` + 1 bytes of standard input, so that `reply` can tell an input that is too long, and writes what
-/// `reply` answers. No clause says so: input and output are the system's.
-pub fn answer_input<F: FnOnce(Global, &[u8]) -> Result<String, AllocError>>(
-    rt: &(impl Input + Print + AllocGlobal),
-    limit: usize,
-    reply: F,
-) -> anyhow::Result<()>
+/// Reads at most `most` bytes, and writes what `reply` answers to them. A reply can tell an input that is too long from
+/// one byte more than it takes.
+/// Nothing is known of the bytes of the system's own input and output, but the function is the same for a reader and a
+/// writer whose bytes are.
+pub fn answer_input<
+    R: Read + Drop,
+    W: Write,
+    F: FnOnce(Global, &[u8]) -> Result<String, AllocError>,
+>(heap: Global, reader: R, writer: &mut W, most: usize, reply: F) -> anyhow::Result<()>
     requires { F.IsAlwaysCallable reply }
+    ensures { OnOk result (Answers (F.post reply heap) most (R.remaining reader) (W.contents writer.old) (W.contents writer.new)) }
 {
-    let mut input = Vec::new(rt.alloc());
-    rt.reader()
-        .take((limit as u64).saturating_add(1))
-        .read_to_end(&mut input)?;
-    let text = reply(rt.alloc(), input.as_slice())?;
-    rt.write_all(text.as_bytes())?;
+    let mut input = Vec::new(heap);
+    reader.take(most as u64).read_to_end(&mut input)?;
+    let text = reply(heap, input.as_slice())?;
+    writer.write_all(text.as_bytes())?;
     Ok(())
 }

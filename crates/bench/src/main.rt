@@ -79,17 +79,12 @@ impl Case {
 
     /// Makes the call that is measured.
     fn make_call(self, s: &mut Plain) -> Result<(), Refusal> {
-        let arriving = match self {
-            Case::Fits => arrival(0, 101, 10, 640, 9),
-            Case::Displaces => arrival(0, 101, 20, 640, 9),
-            Case::Overrides => arrival(1, 101, 400, 640, 9),
-            Case::Works { .. } => {
-                s.work(10_000)?;
-                return Ok(());
-            }
-        };
-        s.arrive(&arriving)?;
-        Ok(())
+        match self {
+            Case::Fits => s.arrive(&arrival(0, 101, 10, 640, 9)).map(drop),
+            Case::Displaces => s.arrive(&arrival(0, 101, 20, 640, 9)).map(drop),
+            Case::Overrides => s.arrive(&arrival(1, 101, 400, 640, 9)).map(drop),
+            Case::Works { .. } => s.work(10_000).map(drop),
+        }
     }
 }
 

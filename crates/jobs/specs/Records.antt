@@ -1,5 +1,6 @@
--- The numbers of classes and kinds, and what a job's deadline and limit say of its finish.
-use Rattle.std.specs.Prelude.{◌≡◌, ℕ, suc, zero, ◌+◌, ◌-◌, ◌<◌, ◌≤◌, List, Ok, Err, Result, codes, ℤ, pos, ◌-ℤ◌}
+-- The numbers and names of classes and kinds, how an ending is written, a job that arrives, and what a job's deadline and limit say of its finish.
+use Rattle.std.specs.Prelude.{◌≡◌, ℕ, suc, zero, ◌+◌, ◌-◌, ◌<◌, ◌≤◌, List, ◌++◌, Ok, Err, Result, codes, decimal, ℤ, pos, ◌-ℤ◌}
+use Rattle.jobs.specs.declared.ending.Ending.{Ending}
 use Rattle.jobs.specs.declared.ending.EndKind.{EndKind}
 use Rattle.jobs.specs.declared.ending.EndKind.TheVariants.{InTime, Missed, Withdrawn}
 use Rattle.jobs.specs.declared.job.Class.{Class}
@@ -31,6 +32,11 @@ abbrev pub kind_name : EndKind → List ℕ
 kind_name InTime = codes "intime"
 kind_name Missed = codes "missed"
 kind_name Withdrawn = codes "withdrawn"
+
+-- ended NUMBER KIND TICK BY
+abbrev pub ended_text : Ending → List ℕ
+ended_text e =
+    codes "ended " ++ (decimal e.number ++ (codes " " ++ (kind_name e.kind ++ (codes " " ++ (decimal e.tick ++ (codes " " ++ decimal e.by))))))
 
 abbrev pub number : Job → ℕ
 number j = j.mark.number

@@ -1,6 +1,6 @@
 //! How a job ended.
 ghost use Rattle.std.specs.Prelude.{◌≡◌, Some};
-ghost use Rattle.jobs.specs.Records.{kind_number, kind_name};
+ghost use Rattle.jobs.specs.Records.{kind_number, kind_name, ended_text};
 
 use crate::numbered::Numbered;
 use std::fmt;
@@ -43,6 +43,21 @@ pub struct Ending {
     pub tick: u32,
     /// The number of the arrival that last displaced it, 0 if none did.
     pub by: u16,
+}
+
+/// An ending is written as `ended NUMBER KIND TICK BY`.
+impl fmt::Display for Ending {
+    ghost output = { λ e. Some (ended_text e) };
+
+    fn fmt<W: fmt::Write>(&self, f: &mut fmt::Formatter<W>) -> fmt::Result {
+        let Ending {
+            number,
+            kind,
+            tick,
+            by,
+        } = self;
+        write!(f, "ended {number} {kind} {tick} {by}")
+    }
 }
 
 impl Numbered for Ending {

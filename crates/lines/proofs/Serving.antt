@@ -10,7 +10,8 @@ use Rattle.admission.specs.Steps.{told_by}
 use Rattle.admission.specs.declared.admitting.Verdict.TheVariants.{Ready, Parked}
 use Rattle.scheduler.specs.Calling.{answer_of, answered}
 use Rattle.scheduler.specs.Serving.{Serves}
-use Rattle.scheduler.specs.Written.{answer_text, admission_text}
+use Rattle.admission.specs.Written.{verdict_text}
+use Rattle.scheduler.specs.Written.{answer_text}
 use Rattle.scheduler.specs.declared.calls.Answer.{Answer}
 use Rattle.scheduler.specs.declared.calls.Answer.TheVariants.{Admitted, Now, Saved, Gone, Ended}
 use Rattle.scheduler.proofs.Promising.{reached_in_range}
@@ -25,7 +26,7 @@ use Rattle.lines.proofs.Turns.{plain_lawful}
 -- an answer is written as the rules' answer is
 written : (q : Asking) (x : Answer) → Ok (answer_text x) ≡ answer_in q (answer_of x)
 written q (Admitted a) =
-    elim a.verdict as (λ v. Ok (admission_text v (exceeding_of a.overrun) (cause_of a.overrun)) ≡ answer_in q (told_by v (exceeding_of a.overrun) (cause_of a.overrun))) [ Ready n ↦ refl | Parked ↦ refl ]
+    elim a.verdict as (λ v. Ok (verdict_text v (exceeding_of a.overrun) (cause_of a.overrun)) ≡ answer_in q (told_by v (exceeding_of a.overrun) (cause_of a.overrun))) [ Ready n ↦ refl | Parked ↦ refl ]
 written q (Now t) = refl
 written q (Saved c) = refl
 written q Gone = refl

@@ -5,20 +5,19 @@
 --   line_text n s bytes  all that is printed for the line of number n, to which the state has come to be s
 use Rattle.std.specs.Prelude.{ℕ, List, [], ◌∷◌, ◌++◌, Some, None, Ok, Err, codes, decimal, Option, Result}
 use Rattle.timing.specs.Timing.{entries}
-use Rattle.timing.specs.Written.{entry_text}
+use Rattle.timing.specs.Written.{entry_lines}
 use Rattle.timing.specs.declared.entry.Entry.{Entry}
 use Rattle.rules.specs.Calls.{serve}
 use Rattle.rules.specs.States.{State, Answer, ready, parked, now_at, saved, gone, line, refused}
 use Rattle.rules.specs.Worked.{plain}
-use Rattle.scheduler.specs.Written.{admitted_text, ended_text}
+use Rattle.jobs.specs.Records.{ended_text}
+use Rattle.admission.specs.Written.{admitted_text}
 use Rattle.words.specs.Faults.{fault_in, fault_text}
 use Rattle.words.specs.Readers.{fault_at}
+use Rattle.words.specs.Texts.{newline}
 use Rattle.words.specs.declared.fault.Cause.TheVariants.{Rule}
 use Rattle.words.specs.declared.fault.WordFault.{WordFault}
 use Rattle.lines.specs.Requests.{Asking, Request, calling, profiling, line_in, call_of, fault_place}
-
-abbrev pub newline : List ℕ
-newline = 10 ∷ []
 
 -- ANSWERS
 
@@ -32,10 +31,6 @@ answer_in q (line e) = Ok (ended_text e)
 answer_in q (refused e) = Err (fault_at (fault_place q e) (Rule e))
 
 -- THE PROFILE
-
-abbrev pub entry_lines : List Entry → List ℕ
-entry_lines [] = []
-entry_lines (e ∷ es) = (entry_text e ++ newline) ++ entry_lines es
 
 -- a line for each ready job, or that there is none
 abbrev pub profile_lines : List Entry → List ℕ

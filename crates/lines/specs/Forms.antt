@@ -14,6 +14,7 @@ use Rattle.scheduler.specs.Written.{answer_text}
 use Rattle.scheduler.specs.declared.scheduler.Scheduler.{Scheduler}
 use Rattle.words.specs.Faults.{fault_in, fault_text}
 use Rattle.words.specs.Readers.{piece}
+use Rattle.words.specs.Texts.{newline}
 use Rattle.words.specs.declared.fault.WordFault.{WordFault}
 use Rattle.lines.specs.declared.request.ArrivalWords.{ArrivalWords}
 use Rattle.lines.specs.declared.request.CallWords.{CallWords}
@@ -22,7 +23,7 @@ use Rattle.lines.specs.declared.request.Request.{Request as Requested}
 use Rattle.lines.specs.declared.request.Request.TheVariants.{Call, Profile}
 use Rattle.lines.specs.declared.session.Response.{Response}
 use Rattle.lines.specs.declared.session.Response.TheVariants.{Answer as Answered, Profile as Profiled}
-use Rattle.lines.specs.Answers.{newline, profile_text}
+use Rattle.lines.specs.Answers.{profile_text}
 use Rattle.lines.specs.Requests.{Arriving, Asking, arriving as is_arriving, working, finishing, withdrawing, collecting, Request, calling, profiling}
 
 -- REQUESTS: the class is a part of the input there, and bytes with a place here

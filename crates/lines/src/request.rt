@@ -51,11 +51,7 @@ pub enum Request<'a> {
 fn outside(number: Number, bounds: Bounds) -> Option<Number>
     ensures { result ≡ outside bounds.least bounds.most number }
 {
-    if bounds.contains(number.value) {
-        None
-    } else {
-        Some(number)
-    }
+    (!bounds.contains(number.value)).then_some(number)
 }
 
 impl Worth {

@@ -6,9 +6,10 @@ ghost use Rattle.rules.specs.Runs.{after};
 ghost use Rattle.rules.specs.States.{State, start};
 ghost use Rattle.rules.specs.Worked.{plain};
 ghost use Rattle.scheduler.specs.Written.{answer_text};
+ghost use Rattle.timing.specs.Written.{entry_lines};
 ghost use Rattle.words.specs.Bytes.{lines};
 ghost use Rattle.words.specs.Texts.{Appends};
-ghost use Rattle.lines.specs.Answers.{answer_in, entry_lines, profile_text, line_text};
+ghost use Rattle.lines.specs.Answers.{answer_in, profile_text, line_text};
 ghost use Rattle.lines.specs.Forms.{asking, response_text, seen, IsReached};
 ghost use Rattle.lines.specs.Load.{lines_calls, printed_from};
 ghost use Rattle.lines.specs.Requests.{call_of, line_calls};
@@ -49,7 +50,7 @@ enum Response {
 }
 
 impl Session {
-    /// A new scheduler.
+    /// A session with a new scheduler.
     pub fn new() -> Session
         ensures { result ≡ start }
     {
@@ -139,8 +140,8 @@ impl Default for Session {
 fn write_entries(text: &mut String, entries: &[Entry]) -> Result<(), AllocError>
     ensures { Appends (entry_lines entries.now) text.old text.new result }
 {
-    for job in entries {
-        writeln!(text, "{job}")?;
+    for entry in entries {
+        writeln!(text, "{entry}")?;
     }
     Ok(())
 }

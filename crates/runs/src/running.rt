@@ -55,7 +55,7 @@ pub fn tolerant(
     })
 }
 
-/// The overrun by so much, none by 0.
+/// An overrun of `by` at `cause`, or none where `by` is 0.
 fn overrun(by: u64, cause: u16) -> Option<Overrun> {
     if by == 0 {
         return None;

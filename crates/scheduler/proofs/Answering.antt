@@ -2,8 +2,8 @@
 use Rattle.std.proofs.Common.{◌≡◌, ℕ, ◌+◌, ◌<◌, ◌≤◌, Bool, true, false, not, ltb, List, [], ◌∷◌, get_or, refl, ap, ◌∙◌}
 use Rattle.std.proofs.lemmas.Bool.{lt-ltb, le-ltb, eq-eqb, not_from_true, not_from_false, or_from, or_left, or_right, or_parts, cond-true, cond-false}
 use Rattle.std.specs.List.{remove}
+use Rattle.jobs.specs.declared.ending.EndKind.{EndKind}
 use Rattle.jobs.specs.declared.ending.EndKind.TheVariants.{InTime, Withdrawn}
-use Rattle.jobs.specs.declared.ending.Ending.{Ending}
 use Rattle.jobs.specs.declared.job.Job.{Job}
 use Rattle.jobs.specs.declared.refusal.Refusal.{Refusal}
 use Rattle.jobs.specs.declared.refusal.Refusal.TheVariants.{Range, Horizon, Unknown, Waiting}
@@ -14,6 +14,7 @@ use Rattle.rules.specs.Giving.{swept}
 use Rattle.rules.specs.Lists.{insert_all, some}
 use Rattle.rules.specs.States.{Parts, ended_order, State, now_at, saved, gone, refused, Outcome, answers, has, other, pending}
 use Rattle.rules.proofs.Distinct.{Distinct}
+use Rattle.admission.specs.Steps.{with_ready, with_parked, with_line}
 use Rattle.scheduler.proofs.Picking.{Found, found_some, kept_others, withdrawn_found, first_and_rest, found_later}
 
 -- a check that fails, and one that passes
@@ -41,12 +42,12 @@ module _ (s : State) (n : ℕ) where
   pub pending_parked : some (has n) s.parked ≡ true → pending s n ≡ true
   pending_parked here = or_right (some (has n) s.ready) (some (has n) s.parked) here
 
--- the state in which a ready, or a parked, job has ended
-abbrev pub without_ready : State → ℕ → Ending → State
-without_ready s p e = record { clock = s.clock; ready = remove s.ready p; parked = s.parked; ended = insert ended_order e s.ended }
+-- the state in which the ready, or the parked, job at a place has ended
+abbrev pub ended_ready : State → ℕ → EndKind → State
+ended_ready s p k = with_ready (remove s.ready p) (with_line k (get_or s.ready p blank) s)
 
-abbrev pub without_parked : State → ℕ → Ending → State
-without_parked s p e = record { clock = s.clock; ready = s.ready; parked = remove s.parked p; ended = insert ended_order e s.ended }
+abbrev pub ended_parked : State → ℕ → EndKind → State
+ended_parked s p k = with_parked (remove s.parked p) (with_line k (get_or s.parked p blank) s)
 
 module _ (ρ : Parts) (s : State) (n : ℕ) where
   -- FINISH
@@ -81,7 +82,7 @@ module _ (ρ : Parts) (s : State) (n : ℕ) where
   named_first : (js rs : List Job) (j : Job) → js ≡ j ∷ rs → number j ≡ n → finish_first ρ s n js ≡ answers (saved j.remaining) (swept ρ (record { clock = s.clock; ready = rs; parked = s.parked; ended = insert ended_order (ends s.clock InTime j) s.ended }))
   named_first js rs j is named = ap (finish_first ρ s n) is ∙ let_through (other n j) Waiting s _ (not_from_true (has n j) (eq-eqb (number j) n named))
 
-  pub finish_first_is : between 1 65535 n ≡ true → Found n s.ready 0 → on_finish ρ s n ≡ answers (saved (get_or s.ready 0 blank).remaining) (swept ρ (without_ready s 0 (ends s.clock InTime (get_or s.ready 0 blank))))
+  pub finish_first_is : between 1 65535 n ≡ true → Found n s.ready 0 → on_finish ρ s n ≡ answers (saved (get_or s.ready 0 blank).remaining) (swept ρ (ended_ready s 0 InTime))
   finish_first_is within f =
       allowed s n (finish_first ρ s n s.ready) within (pending_ready s n (found_some n s.ready 0 f))
       ∙ named_first s.ready (remove s.ready 0) (get_or s.ready 0 blank) (first_and_rest s.ready f.0) f.1
@@ -94,7 +95,7 @@ module _ (ρ : Parts) (s : State) (n : ℕ) where
   pub withdraw_unknown : between 1 65535 n ≡ true → some (has n) s.ready ≡ false → some (has n) s.parked ≡ false → on_withdraw ρ s n ≡ answers (refused Unknown) s
   withdraw_unknown = not_allowed s n _
 
-  pub withdraw_ready : (p : ℕ) → between 1 65535 n ≡ true → Distinct s.ready → Found n s.ready p → on_withdraw ρ s n ≡ answers gone (swept ρ (without_ready s p (ends s.clock Withdrawn (get_or s.ready p blank))))
+  pub withdraw_ready : (p : ℕ) → between 1 65535 n ≡ true → Distinct s.ready → Found n s.ready p → on_withdraw ρ s n ≡ answers gone (swept ρ (ended_ready s p Withdrawn))
   withdraw_ready p within apart f =
       let here = found_some n s.ready p f in
       let left = kept_others n s.ready p apart f in
@@ -103,7 +104,7 @@ module _ (ρ : Parts) (s : State) (n : ℕ) where
       ∙ ap (answers gone) (cond-true (some (has n) s.ready) _ _ here)
       ∙ (λ i. answers gone (swept ρ (record { clock = s.clock; ready = left i; parked = s.parked; ended = insert_all ended_order (lines i) s.ended })))
 
-  pub withdraw_parked : (p : ℕ) → between 1 65535 n ≡ true → some (has n) s.ready ≡ false → Distinct s.parked → Found n s.parked p → on_withdraw ρ s n ≡ answers gone (without_parked s p (ends s.clock Withdrawn (get_or s.parked p blank)))
+  pub withdraw_parked : (p : ℕ) → between 1 65535 n ≡ true → some (has n) s.ready ≡ false → Distinct s.parked → Found n s.parked p → on_withdraw ρ s n ≡ answers gone (ended_parked s p Withdrawn)
   withdraw_parked p within unready apart f =
       let left = kept_others n s.parked p apart f in
       let lines = withdrawn_found s.clock n s.parked p apart f in

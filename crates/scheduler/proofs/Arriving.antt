@@ -15,7 +15,7 @@ module _ (ρ : Parts) (laws : LawfulParts ρ) (s : State) (a : Arrival) where
   pub not_accepted : (e : Refusal) → checked s a ≡ Err e → Serves ρ s (arrive a) (refused e) s
   not_accepted e is = turned_down ρ laws s (arrive a) e (checked_err s a ρ e is)
 
-  pub arrived : (j : Job) (s' : State) (r : Result Admission Refusal) → checked s a ≡ Ok j → Admits ρ j s s' r → Serves ρ s (arrive a) (or_refused told r) s'
+  pub arrived : (j : Job) (s' : State) (r : Result Admission Refusal) → checked s a ≡ Ok j → Admits ρ j r s s' → Serves ρ s (arrive a) (or_refused told r) s'
   arrived j s' (Ok x) ok done =
       taken_on ρ laws s (arrive a) (told x) s'
       (λ _. (checked_ok s a ρ j ok).2 ∙ done)

@@ -14,20 +14,20 @@ use Rattle.scheduler.specs.Serving.{checked}
 
 -- A NUMBER IN ITS RANGE
 
-accepted : (inside : Bool) (n m : ℕ) → Ok m ≡ cond inside (Ok n) (Err Range) → (inside ≡ true) × (m ≡ n)
-accepted true n m is = (refl, cc)
-accepted false n m is = (cc, cc)
+let_in : (inside : Bool) (n m : ℕ) → Ok m ≡ cond inside (Ok n) (Err Range) → (inside ≡ true) × (m ≡ n)
+let_in true n m is = (refl, cc)
+let_in false n m is = (cc, cc)
 
-turned_away : (inside : Bool) (n : ℕ) (e : Refusal) → Err e ≡ cond inside (Ok n) (Err Range) → (inside ≡ false) × (e ≡ Range)
-turned_away true n e is = (cc, cc)
-turned_away false n e is = (refl, cc)
+kept_out : (inside : Bool) (n : ℕ) (e : Refusal) → Err e ≡ cond inside (Ok n) (Err Range) → (inside ≡ false) × (e ≡ Range)
+kept_out true n e is = (cc, cc)
+kept_out false n e is = (refl, cc)
 
 module _ (low high n : ℕ) where
   pub in_bounds : (m : ℕ) → Ok m ≡ in_range low high n → (between low high n ≡ true) × (m ≡ n)
-  in_bounds m = accepted (between low high n) n m
+  in_bounds m = let_in (between low high n) n m
 
   pub out_of_bounds : (e : Refusal) → Err e ≡ in_range low high n → (between low high n ≡ false) × (e ≡ Range)
-  out_of_bounds = turned_away (between low high n) n
+  out_of_bounds = kept_out (between low high n) n
 
 -- THE CHECKS AND THE RULE
 

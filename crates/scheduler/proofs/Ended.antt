@@ -1,25 +1,22 @@
 -- Finish and withdraw, from what is found of the job in the lists to what the call promises.
-use Rattle.std.proofs.Common.{◌≡◌, ℕ, ◌<◌, ◌≤◌, true, false, length, sym, ap, ◌∙◌, subst, arith}
+use Rattle.std.proofs.Common.{◌≡◌, ℕ, ◌<◌, ◌≤◌, true, false, length, Ok, Err, sym, ap, ◌∙◌, subst, arith}
 use Rattle.jobs.specs.declared.ending.EndKind.TheVariants.{InTime, Withdrawn}
 use Rattle.jobs.specs.declared.job.Job.{Job}
 use Rattle.jobs.specs.declared.refusal.Refusal.{Refusal}
 use Rattle.jobs.specs.declared.refusal.Refusal.TheVariants.{Range, Unknown, Waiting}
-use Rattle.rules.specs.Calls.{between, serve}
+use Rattle.rules.specs.Calls.{serve}
 use Rattle.rules.specs.Lists.{some}
 use Rattle.rules.specs.States.{Parts, LawfulParts, State, Call, finish, withdraw, Answer, saved, gone, refused, answers, has, population}
 use Rattle.stores.specs.Tables.{known}
 use Rattle.admission.proofs.Among.{known_some}
 use Rattle.admission.specs.Steps.{ReadyEnded, ParkedEnded}
+use Rattle.scheduler.specs.Calling.{NumberedSo}
 use Rattle.scheduler.specs.Serving.{Serves}
 use Rattle.scheduler.proofs.Answering.{finish_range, finish_unknown, finish_not_first, finish_parked, withdraw_range, withdraw_unknown, pending_ready, pending_parked}
 use Rattle.scheduler.proofs.Checking.{in_range_ready_once, in_range_parked_once}
 use Rattle.scheduler.proofs.Exactly.{finish_exact, finish_heard, withdraw_ready_exact, withdraw_parked_exact, withdraw_heard}
 use Rattle.scheduler.proofs.Picking.{Found, found_some}
 use Rattle.scheduler.proofs.Promising.{turned_down, taken_on}
-
--- n is a job's number, read as m
-abbrev Named : ℕ → ℕ → Type 0
-Named n m = (between 1 65535 n ≡ true) × (m ≡ n)
 
 module _ (ρ : Parts) (laws : LawfulParts ρ) (s : State) (n : ℕ) where
   -- a call that the rules refuse so
@@ -28,10 +25,10 @@ module _ (ρ : Parts) (laws : LawfulParts ρ) (s : State) (n : ℕ) where
 
   -- FINISH
 
-  pub finish_out : (e : Refusal) → (between 1 65535 n ≡ false) × (e ≡ Range) → Serves ρ s (finish n) (refused e) s
+  pub finish_out : (e : Refusal) → NumberedSo n (Err e) → Serves ρ s (finish n) (refused e) s
   finish_out e h = turned_so (finish n) e Range h.1 (finish_range ρ s n h.0)
 
-  module _ (m : ℕ) (named : Named n m) where
+  module _ (m : ℕ) (named : NumberedSo n (Ok m)) where
     pub finish_none : some (has m) s.ready ≡ false → known (λ j. j.mark.number) m s.parked ≡ false → Serves ρ s (finish n) (refused Unknown) s
     finish_none unready unparked =
         let same = named.1 in
@@ -63,10 +60,10 @@ module _ (ρ : Parts) (laws : LawfulParts ρ) (s : State) (n : ℕ) where
 
   -- WITHDRAW
 
-  pub withdraw_out : (e : Refusal) → (between 1 65535 n ≡ false) × (e ≡ Range) → Serves ρ s (withdraw n) (refused e) s
+  pub withdraw_out : (e : Refusal) → NumberedSo n (Err e) → Serves ρ s (withdraw n) (refused e) s
   withdraw_out e h = turned_so (withdraw n) e Range h.1 (withdraw_range ρ s n h.0)
 
-  module _ (m : ℕ) (named : Named n m) where
+  module _ (m : ℕ) (named : NumberedSo n (Ok m)) where
     pub withdraw_none : some (has m) s.ready ≡ false → some (has m) s.parked ≡ false → Serves ρ s (withdraw n) (refused Unknown) s
     withdraw_none unready unparked =
         let same = named.1 in

@@ -1,5 +1,5 @@
 -- A job picked by its number from a list in which no number stands twice.
-use Rattle.std.proofs.Common.{◌≡◌, ℕ, zero, suc, ◌<◌, Bool, true, false, List, [], ◌∷◌, map, length, get_or, take, filter, refl, ap, ◌∙◌, subst, arith}
+use Rattle.std.proofs.Common.{◌≡◌, ℕ, zero, suc, ◌<◌, Bool, true, false, List, [], ◌∷◌, Some, map, length, get_or, take, filter, refl, ap, ◌∙◌, subst, arith}
 use Rattle.std.proofs.ByRecursion.{All-weaker}
 use Rattle.std.proofs.lemmas.Bool.{cond-true, cond-false, eq-eqb, or_left, or_right, or_parts, not_from_true, not_from_false}
 use Rattle.std.specs.List.{remove, AllByRecursion as Every}
@@ -9,11 +9,12 @@ use Rattle.jobs.specs.Records.{number, blank}
 use Rattle.rules.specs.Calls.{ends, withdrawn}
 use Rattle.rules.specs.Lists.{some}
 use Rattle.rules.specs.States.{has, other}
+use Rattle.admission.specs.Steps.{Finds}
 use Rattle.rules.proofs.Distinct.{Distinct, others_differ, distinct_rest}
 
 -- the job n stands first at the place p
 abbrev pub Found : ℕ → List Job → ℕ → Type 0
-Found n js p = (p < length js) × (number (get_or js p blank) ≡ n) × (some (has n) (take p js) ≡ false)
+Found n js p = Finds n js (Some p)
 
 -- LISTS THAT A TEST LEAVES WHOLE, OR EMPTY
 

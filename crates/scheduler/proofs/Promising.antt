@@ -1,11 +1,11 @@
 -- A call that in range does what the rules say keeps the promise.
-use Rattle.std.proofs.Common.{◌≡◌, List, ◌++◌, sym, refl, ap, ◌∙◌, subst}
+use Rattle.std.proofs.Common.{◌≡◌, Bool, true, false, List, ◌++◌, sym, refl, ap, ◌∙◌, subst}
 use Rattle.jobs.specs.declared.refusal.Refusal.{Refusal}
 use Rattle.rules.specs.Calls.{serve}
 use Rattle.rules.specs.Promise.{Sound, Reached}
 use Rattle.rules.specs.Ranges.{InRange}
 use Rattle.rules.specs.Runs.{Moment, moments}
-use Rattle.rules.specs.States.{Parts, LawfulParts, State, Call, Answer, refused, answers}
+use Rattle.rules.specs.States.{Parts, LawfulParts, State, Call, Answer, ready, parked, now_at, saved, gone, line, refused, answers}
 use Rattle.rules.proofs.Ranging.{every_run_in_range}
 use Rattle.rules.proofs.Sounding.{every_call_keeps}
 use Rattle.scheduler.specs.Serving.{Refuses, Serves}
@@ -34,3 +34,16 @@ turned_down ρ laws s k e is = promised ρ laws s k (refused e) s (λ _. is) (λ
 -- a call that the rules do not refuse
 pub taken_on : (ρ : Parts) → LawfulParts ρ → (s : State) (k : Call) (r : Answer) (s' : State) → (InRange s → serve ρ s k ≡ answers r s') → ((e : Refusal) → (serve ρ s k).answer ≡ refused e → ⊥) → Serves ρ s k r s'
 taken_on ρ laws s k r s' exact heard = promised ρ laws s k r s' exact (λ e h. absurd (heard e h))
+
+-- an answer that is no refusal
+abbrev pub is_refusal : Answer → Bool
+is_refusal (ready e w n) = false
+is_refusal (parked e w n) = false
+is_refusal (now_at t) = false
+is_refusal (saved c) = false
+is_refusal gone = false
+is_refusal (line x) = false
+is_refusal (refused e) = true
+
+pub no_refusal : (r : Answer) (e : Refusal) → is_refusal r ≡ false → r ≡ refused e → ⊥
+no_refusal r e isnt is = let so = ap is_refusal is in cc

@@ -5,7 +5,7 @@ ghost use Rattle.jobs.specs.Records.{Classed};
 ghost use Rattle.scheduler.specs.Calling.{asked};
 ghost use Rattle.scheduler.specs.Written.{answer_text};
 
-use admission::admitting::{Admission, Verdict};
+use admission::admitting::Admission;
 use jobs::ending::Ending;
 use jobs::job::Class;
 use jobs::ranges::{COMPUTATIONS, DEADLINES_IN, NUMBERS, TOLERANCES, VALUES};
@@ -74,32 +74,17 @@ pub enum Answer {
     Ended(Ending),
 }
 
-/// An answer is written as one line: `VERDICT E CAUSE COUNT`, `now CLOCK`, `done SAVED`, `gone` or `ended NUMBER KIND TICK BY`.
+/// An answer is written in one line: an admission, `now CLOCK`, `done SAVED`, `gone`, or an ending.
 impl fmt::Display for Answer {
     ghost output = { λ a. Some (answer_text a) };
 
     fn fmt<W: fmt::Write>(&self, f: &mut fmt::Formatter<W>) -> fmt::Result {
         match self {
-            Answer::Admitted(Admission { verdict, overrun }) => {
-                let (verdict, displaced) = match verdict {
-                    Verdict::Ready { displaced } => ("ready", *displaced),
-                    Verdict::Parked => ("parked", 0),
-                };
-                let exceeding = overrun.map_or(0, |overrun| overrun.by);
-                let cause = overrun.map_or(0, |overrun| overrun.cause);
-                write!(f, "{verdict} {exceeding} {cause} {displaced}")
-            }
+            Answer::Admitted(admission) => write!(f, "{admission}"),
             Answer::Now(clock) => write!(f, "now {clock}"),
             Answer::Saved(ticks) => write!(f, "done {ticks}"),
             Answer::Gone => write!(f, "gone"),
-            Answer::Ended(
-                Ending {
-                    number,
-                    kind,
-                    tick,
-                    by,
-                },
-            ) => write!(f, "ended {number} {kind} {tick} {by}"),
+            Answer::Ended(ending) => write!(f, "{ending}"),
         }
     }
 }

@@ -1,4 +1,4 @@
--- What a table ends as, where a `&mut` to its records is returned.
+-- What a table is once the `&mut` to its records, which it lent, has ended.
 use Rattle.std.specs.Prelude.{◌≤◌, List, length, refl}
 use Rattle.std.specs.Borrow.{Lends, Fml, RattleType, MutBor, Array}
 use Rattle.std.specs.List.{length_refill}

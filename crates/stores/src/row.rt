@@ -1,5 +1,5 @@
-//! A ready store in a table of its own.
+//! The ready store that is built here.
 use crate::table::JobTable;
 
-/// The ready jobs in a row of 64 places.
+/// A table of jobs, as the store of the ready ones.
 pub type Row = JobTable;

@@ -26,6 +26,7 @@ pub struct RecordTable<T> {
 /// A table of jobs, which is a ready store too.
 pub type JobTable = RecordTable<Job>;
 
+/// The lines of jobs that have ended, until they are collected.
 pub type EndingTable = RecordTable<Ending>;
 
 impl<T: Numbered + Default> RecordTable<T> {
@@ -121,11 +122,9 @@ impl ReadyStore for RecordTable<Job> {
         if place > self.records.len() {
             return Err(Refusal::Range);
         }
-        if self.records.is_full() {
-            return Err(Refusal::Full);
-        }
-        self.records.insert(place, job);
-        Ok(())
+        self.records
+            .try_insert(place, job)
+            .map_err(|_| Refusal::Full)
     }
 
     fn take(&mut self, place: usize) -> Result<Job, Refusal> {

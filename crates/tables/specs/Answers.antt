@@ -1,21 +1,14 @@
 -- What is answered to a table.
 use Rattle.std.specs.Prelude.{ℕ, cond, List, [], ◌∷◌, ◌++◌, Ok, Err, codes, decimal, Result, ◌==◌}
-use Rattle.timing.specs.declared.entry.Entry.{Entry}
 use Rattle.jobs.specs.declared.job.Job.{Job}
 use Rattle.timing.specs.Tallies.{Tally}
 use Rattle.timing.specs.Timing.{holds, exceeding, cause, entries}
-use Rattle.timing.specs.Written.{entry_text}
+use Rattle.timing.specs.Written.{entry_lines}
 use Rattle.words.specs.Faults.{fault_text}
+use Rattle.words.specs.Texts.{newline}
 use Rattle.words.specs.declared.fault.Fault.{Fault}
 use Rattle.tables.specs.Format.{table_in}
 use Rattle.tables.specs.Table.{Sheet}
-
-abbrev pub newline : List ℕ
-newline = 10 ∷ []
-
-abbrev pub entry_lines : List Entry → List ℕ
-entry_lines [] = []
-entry_lines (e ∷ es) = (entry_text e ++ newline) ++ entry_lines es
 
 -- holds, or exceeds E CAUSE
 abbrev pub verdict : ℕ → List Job → List ℕ

@@ -1,9 +1,9 @@
 -- What the lines of a table say, from the bytes on.
-use Rattle.std.specs.Prelude.{◌≡◌, ℕ, ◌+◌, Bool, true, false, cond, not, ◌&&◌, List, [], ◌∷◌, length, Some, None, Ok, Err, codes, Option, Result, nat_lt}
+use Rattle.std.specs.Prelude.{◌≡◌, ℕ, ◌+◌, Bool, true, false, cond, not, ◌&&◌, List, [], ◌∷◌, Some, None, Ok, Err, codes, Option, Result}
 use Rattle.std.specs.Str.{bytes_eq}
 use Rattle.jobs.specs.declared.job.Class.TheVariants.{Hard}
 use Rattle.jobs.specs.declared.job.Job.{Job}
-use Rattle.words.specs.Bytes.{lines}
+use Rattle.words.specs.Bytes.{over_long, lines}
 use Rattle.words.specs.Faults.{too_long, broken_at, in_line, then}
 use Rattle.words.specs.Readers.{Rest, whole, skip, first, first_number, optional_number, none_left, number_alone, within}
 use Rattle.words.specs.declared.fault.Fault.{Fault}
@@ -78,7 +78,7 @@ lines_in n (l ∷ ls) s = then (in_line n (line_in l s)) (lines_in (n + 1) ls)
 
 abbrev pub table_in : List ℕ → Result Sheet Fault
 table_in bytes =
-    cond (nat_lt 65536 (length bytes))
+    cond (over_long bytes)
     (Err too_long)
     (then (lines_in 1 (lines bytes) unread) (λ s. Ok s.sheet))
 

@@ -17,7 +17,7 @@ struct Draft {
     table: Table,
 }
 
-/// The tick of a line `at TICK`, its first word being read.
+/// The tick of a line `at TICK`, whose first word has been read.
 fn read_start(words: &mut Words<'_>) -> Result<u32, WordFault>
     ensures { result ≡ start_in (rest words.old) }
 {
@@ -31,7 +31,7 @@ fn tolerance_of(word: Option<Number>) -> Result<u32, WordFault>
     word.map_or(Ok(0), |number| number.within(TOLERANCES))
 }
 
-/// The job of a line. The words are read first, then their ranges are held.
+/// The job of a line. The words are read first, then held to their ranges.
 fn read_job(start: u32, words: &mut Words<'_>) -> Result<Job, WordFault>
     ensures { result ≡ job_in start (rest words.old) }
 {

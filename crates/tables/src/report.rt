@@ -2,20 +2,22 @@
 ghost use Rattle.std.specs.Prelude.{◌≡◌, ◌≤◌, length, IfOk, string_bytes};
 ghost use Rattle.timing.specs.Tallies.{Walked};
 ghost use Rattle.timing.specs.Timing.{entries};
+ghost use Rattle.timing.specs.Written.{entry_lines};
 ghost use Rattle.words.specs.Texts.{Appends};
-ghost use Rattle.tables.specs.Answers.{answer, entry_lines, sheet_answer, verdict_of};
+ghost use Rattle.tables.specs.Answers.{answer, sheet_answer, verdict_of};
 ghost use Rattle.tables.specs.Table.{sheet};
 
 use crate::reading::read;
 use crate::table::Table;
 use jobs::job::Job;
+use jobs::ranges::CAPACITY;
 use std::alloc::{AllocError, Global};
 use timing::overrun::Overrun;
 use timing::timeline::Timeline;
 
 /// Writes a line for each job, and answers the walk through all of them.
 fn write_entries(text: &mut String, start: u32, jobs: &[Job]) -> Result<Timeline, AllocError>
-    requires { length jobs.now ≤ 64 }
+    requires { length jobs.now ≤ CAPACITY }
     ensures written { Appends (entry_lines (entries start 0 jobs.now)) text.old text.new result }
     ensures walked { IfOk result (λ w. Walked start jobs.now w) }
 {

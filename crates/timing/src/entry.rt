@@ -1,6 +1,6 @@
 //! What is known of one job of a list that is worked in its order.
 ghost use Rattle.std.specs.Prelude.{Some};
-ghost use Rattle.timing.specs.Written.{load_text, entry_text};
+ghost use Rattle.timing.specs.Written.{fraction_text, entry_text};
 
 use std::fmt;
 
@@ -15,7 +15,7 @@ pub struct Load {
 
 /// A load is written as `SUM SPAN`.
 impl fmt::Display for Load {
-    ghost output = { λ l. Some (load_text l) };
+    ghost output = { λ l. Some (fraction_text l) };
 
     fn fmt<W: fmt::Write>(&self, f: &mut fmt::Formatter<W>) -> fmt::Result {
         let Load { sum, span } = *self;

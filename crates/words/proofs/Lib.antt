@@ -1,4 +1,4 @@
 pub mod Cutting
+pub mod Figures
 pub mod Lining
 pub mod Spacing
-pub mod Figures

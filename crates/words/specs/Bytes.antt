@@ -1,6 +1,7 @@
 -- What bytes say: the lines of an input, the words of a line, and the number that a word is.
 --
 --   before stop bs    the bytes of bs up to the first that is stop
+--   over_long bs      the input is too long to be read
 --   lines bs          the lines of an input
 --   words p bs        the words of a line, of which bs is left and begins at the place p
 --   is_number bs      bs is one to nine decimal digits
@@ -11,6 +12,10 @@ use Rattle.std.specs.Prelude.{ℕ, ◌+◌, ◌-◌, ◌*◌, Bool, true, false,
 abbrev pub before : ℕ → List ℕ → List ℕ
 before stop [] = []
 before stop (b ∷ bs) = cond (b == stop) [] (b ∷ before stop bs)
+
+-- an input of more than 65,536 bytes is not read
+abbrev pub over_long : List ℕ → Bool
+over_long bs = nat_lt 65536 (length bs)
 
 -- a line begins after each byte 10
 abbrev pub later_lines : List ℕ → List (List ℕ)

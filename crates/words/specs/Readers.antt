@@ -15,11 +15,11 @@
 --   optional_number r        the same, where no word need be there
 --   none_left r              no word may be left over
 --   number_alone r           a number, and no word more
-use Rattle.std.specs.Prelude.{◌≡◌, ℕ, ◌+◌, ◌<◌, ◌≤◌, List, [], length, drop, Some, None, Ok, Err, Option, Result, ok_or}
+use Rattle.std.specs.Prelude.{◌≡◌, ℕ, ◌+◌, List, [], length, drop, Some, None, Ok, Err, Option, Result, ok_or, IsTrue, IsFalse}
 use Rattle.std.specs.List.{slice_get}
 use Rattle.std.specs.Borrow.{Bor}
 use Rattle.std.specs.Result.{result_map_both}
-use Rattle.words.specs.Bytes.{Piece, lines, words, number_in}
+use Rattle.words.specs.Bytes.{Piece, over_long, lines, words, number_in}
 use Rattle.words.specs.declared.fault.Cause.{Cause}
 use Rattle.words.specs.declared.fault.Cause.TheVariants.{Missing, Digits, Extra}
 use Rattle.jobs.specs.Ranges.{in_range}
@@ -41,8 +41,8 @@ lines_left s = lines_in s.rest
 
 -- the input, unless it is too long
 abbrev pub Accepted : List ℕ → Result (Bor (List ℕ)) Fault → Type 0
-Accepted bytes (Ok r) = (length bytes ≤ 65536) × (r.now ≡ bytes)
-Accepted bytes (Err f) = (65536 < length bytes) × (f ≡ too_long)
+Accepted bytes (Ok r) = IsFalse (over_long bytes) × (r.now ≡ bytes)
+Accepted bytes (Err f) = IsTrue (over_long bytes) × (f ≡ too_long)
 
 abbrev pub piece : Word → Piece
 piece w = record { text = w.text.now; place = w.place }

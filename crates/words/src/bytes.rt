@@ -18,7 +18,7 @@ pub fn number(bytes: &[u8]) -> Option<u32>
     ensures value { result ≡ number_in bytes.now }
     ensures small { IfSome result (λ n. n < 1000000000) }
 {
-    if bytes.is_empty() || bytes.len() > 9 {
+    if !(1..=9).contains(&bytes.len()) {
         return None;
     }
     let mut value = 0;

@@ -1,10 +1,9 @@
 //! The words of a line with their places, and the readers of numbers above them.
-ghost use Rattle.std.specs.Prelude.{◌≡◌, ◌+◌, ◌<◌, ◌≤◌, [], length, drop, IfOk, IfSome, OnOk, MatchOption, ◌≢◌, slice_index};
-ghost use Rattle.std.specs.Option.{option_map};
+ghost use Rattle.std.specs.Prelude.{◌≡◌, ◌+◌, ◌<◌, ◌≤◌, [], ◌∷◌, length, drop, IfOk, IfSome, OnOk, MatchOption, ◌≢◌, slice_index};
 ghost use Rattle.std.specs.Result.{result_map_both};
 ghost use Rattle.words.specs.Bytes.{words};
 ghost use Rattle.std.specs.Str.{bytes_eq};
-ghost use Rattle.words.specs.Readers.{piece, rest, whole, skip, first, within, number_of, first_word, first_number, optional_number, none_left, number_alone};
+ghost use Rattle.words.specs.Readers.{piece, rest, whole, skip, within, number_of, first_word, first_number, optional_number, none_left, number_alone};
 ghost use Rattle.std.specs.Iterator.{at_most};
 
 use crate::bytes::{before, number};
@@ -127,7 +126,7 @@ impl<'a> Words<'a> {
 impl<'a> Iterator for Words<'a> {
     type Item = Word<'a>;
 
-    ghost next_gives = { λ s r t. (option_map piece r ≡ first (rest s)) × (rest t ≡ skip 1 (rest s)) };
+    ghost next_gives = { λ s r t. MatchOption r (((rest s).words ≡ []) × ((rest t).words ≡ [])) (λ w. (rest s).words ≡ piece w ∷ (rest t).words) × ((rest t).end ≡ (rest s).end) };
 
     ghost remaining = { λ s. at_most (length (rest s).words) };
 

@@ -1,7 +1,7 @@
 use Rattle.std.proofs.Common.{◌≡◌, ◌++◌, drop, string_bytes}
 use Rattle.timing.specs.Tallies.{fresh, counted_all}
 use Rattle.timing.specs.Timing.{entries}
-use Rattle.tables.specs.Answers.{entry_lines}
+use Rattle.timing.specs.Written.{entry_lines}
 use Rattle.tables.proofs.report.write_entries.Given as goal
 
 abbrev pub invariant-loop-job : goal.invariant-loop-job
