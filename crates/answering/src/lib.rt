@@ -7,8 +7,8 @@ ghost use Rattle.answering.specs.Answering.{Answers};
 use std::alloc::{AllocError, Global};
 use std::io::{Read, Write};
 
-/// Reads at most `most` bytes, and writes what `reply` answers to them. A reply can tell an input that is too long from
-/// one byte more than it takes.
+/// Reads at most `most` bytes, and writes what `reply` answers to them. Where `most` is one byte more than the reply takes,
+/// the reply sees that an input is too long.
 /// Nothing is known of the bytes of the system's own input and output, but the function is the same for a reader and a
 /// writer whose bytes are.
 pub fn answer_input<

@@ -6,7 +6,11 @@ use tables::reading::MAX_INPUT;
 use tables::report::reply;
 
 fn main(rt: HostRuntime) -> anyhow::Result<()> {
-    // One byte more than is taken, so that a longer input is told.
-    let most = MAX_INPUT + 1;
-    answer_input(rt.alloc(), rt.stdin(), &mut rt.stdout(), most, reply)
+    answer_input(
+        rt.alloc(),
+        rt.stdin(),
+        &mut rt.stdout(),
+        MAX_INPUT + 1,
+        reply,
+    )
 }

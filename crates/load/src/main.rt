@@ -5,7 +5,11 @@ use answering::answer_input;
 use lines::reply::{MAX_INPUT, reply};
 
 fn main(rt: HostRuntime) -> anyhow::Result<()> {
-    // One byte more than is taken, so that a longer input is told.
-    let most = MAX_INPUT + 1;
-    answer_input(rt.alloc(), rt.stdin(), &mut rt.stdout(), most, reply)
+    answer_input(
+        rt.alloc(),
+        rt.stdin(),
+        &mut rt.stdout(),
+        MAX_INPUT + 1,
+        reply,
+    )
 }

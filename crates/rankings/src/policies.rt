@@ -1,7 +1,6 @@
 //! Rejection policies: which jobs are to go first when a list has no room, and which are spared.
 ghost use Rattle.std.specs.Prelude.{◌≡◌, ◌<◌, ◌≤◌, Bool, true, false, ◌||◌, MatchResult, nat_le};
 ghost use Rattle.jobs.specs.declared.job.Job.{Job};
-ghost use Rattle.jobs.specs.declared.ranges.TheConstants.{THRESHOLDS};
 ghost use Rattle.rankings.specs.Rankings.{smaller_value};
 ghost use Rattle.std.proofs.Common.{rules};
 
@@ -75,13 +74,13 @@ impl Policy for SpareAll {
 pub struct Shelter<P> {
     policy: P,
     threshold: u32,
-    ghost within: { threshold ≤ THRESHOLDS.most },
+    ghost within: { threshold ≤ 1000000 },
 }
 
 impl<P: Policy + Drop> Shelter<P> {
     /// The shelter over `policy`; a threshold out of its range is refused.
     pub fn over(policy: P, threshold: u32) -> Result<Shelter<P>, Refusal>
-        ensures { MatchResult result (λ s. (s.policy ≡ policy) × (s.threshold ≡ threshold)) (λ e. (e ≡ Refusal.Range) × (THRESHOLDS.most < threshold)) }
+        ensures { MatchResult result (λ s. (s.policy ≡ policy) × (s.threshold ≡ threshold)) (λ e. (e ≡ Refusal.Range) × (1000000 < threshold)) }
     {
         let threshold = THRESHOLDS.accept(threshold)?;
         Ok(Shelter { policy, threshold })

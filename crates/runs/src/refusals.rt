@@ -44,9 +44,9 @@ fn refused(rt: &impl Abort, call: Call, refusal: Refusal, number: u8) {
     alike(rt, &s, &busy(rt));
 }
 
-/// The number of the refusal, 0 if there is none.
-fn refusal_number<T: Drop>(answer: Result<T, Refusal>) -> u8 {
-    answer.err().map_or(0, |refusal| refusal.number())
+/// The number of the refusal, if there is one.
+fn refusal_number<T: Drop>(answer: Result<T, Refusal>) -> Option<u8> {
+    answer.err().map(|refusal| refusal.number())
 }
 
 #[test]
@@ -89,7 +89,7 @@ fn exactly_enough_time_is_enough(rt: HostRuntime) {
 #[test]
 fn nothing_to_collect(rt: HostRuntime) {
     let mut s = plain();
-    assert_eq!(rt; refusal_number(s.collect()), 9);
+    assert_eq!(rt; refusal_number(s.collect()), Some(9));
     alike(&rt, &s, &plain());
 }
 
@@ -103,7 +103,7 @@ fn a_table_too_short(rt: HostRuntime) {
         load: None,
     };
     let mut table = [blank; 1];
-    assert_eq!(rt; refusal_number(s.profile(&mut table)), 10);
+    assert_eq!(rt; refusal_number(s.profile(&mut table)), Some(10));
     assert_eq!(rt; table[0].number, 7);
 }
 
@@ -126,9 +126,9 @@ fn the_end_of_the_clock(rt: HostRuntime) -> Result<(), Fail> {
         s.work(10_000)?;
     }
     assert_eq!(rt; s.work(9_999)?, 999_999_999);
-    assert_eq!(rt; refusal_number(s.work(2)), 3);
+    assert_eq!(rt; refusal_number(s.work(2)), Some(3));
     assert_eq!(rt; s.clock(), 999_999_999);
     assert_eq!(rt; s.work(1)?, 1_000_000_000);
-    assert_eq!(rt; refusal_number(s.work(1)), 3);
+    assert_eq!(rt; refusal_number(s.work(1)), Some(3));
     Ok(())
 }
