@@ -22,7 +22,8 @@ use stores::table::EndingTable;
 pub fn find<S: ReadyStore>(list: &S, number: u16) -> Option<usize>
     ensures { Finds number (S.ReadyStore.jobs list.now) result }
 {
-    list.iter().position(|job| job.mark.number == number)
+    let place = list.iter().position(|job| job.mark.number == number)?;
+    Some(place)
 }
 
 /// The line of a job that ends at `tick`.
@@ -79,6 +80,7 @@ impl<S: ReadyStore> Roster<S> {
     pub fn end_parked(&mut self, place: usize, kind: EndKind) -> Result<Job, Refusal>
         ensures step { Leads S.ReadyStore (EndsParked place kind result) self.old self.new }
         ensures apart { Leads S.ReadyStore KeepsReady self.old self.new }
+        ensures store { self.new.ready ≡ self.old.ready }
     {
         end(&mut self.parked, place, &mut self.ended, kind, self.clock)
     }
@@ -87,6 +89,7 @@ impl<S: ReadyStore> Roster<S> {
     pub fn expire(&mut self) -> Result<(), Refusal>
         ensures step { Leads S.ReadyStore (Expires result) self.old self.new }
         ensures apart { Leads S.ReadyStore KeepsReady self.old self.new }
+        ensures store { self.new.ready ≡ self.old.ready }
     {
         let tick = self.clock;
         try_retain(

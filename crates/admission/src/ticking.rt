@@ -1,4 +1,5 @@
 //! One tick of work.
+ghost use Rattle.std.specs.Prelude.{OnErr};
 ghost use Rattle.admission.specs.Disciplines.{parts};
 ghost use Rattle.admission.specs.Rosters.{Leads};
 ghost use Rattle.admission.specs.Steps.{WorksFirst, Ticks, KeepsClock, KeepsRange};
@@ -37,8 +38,8 @@ impl<S: ReadyStore> Roster<S> {
         Ok(true)
     }
 
-    /// Lets one tick pass, and answers the clock; past its last tick it is refused.
-    pub fn pass_tick<O: Ranking<Item = Mark>, P: Policy>(
+    /// The tick after the clock: raises it, and takes the steps of the tick.
+    fn take_tick<O: Ranking<Item = Mark>, P: Policy>(
         &mut self,
         discipline: &Discipline<O, P>,
     ) -> Result<u32, Refusal>
@@ -55,5 +56,24 @@ impl<S: ReadyStore> Roster<S> {
             self.sweep(discipline)?;
         }
         Ok(self.clock)
+    }
+
+    /// Lets one tick pass, and answers the clock; past its last tick it is refused. A refusal leaves the clock as it was.
+    pub fn pass_tick<O: Ranking<Item = Mark>, P: Policy>(
+        &mut self,
+        discipline: &Discipline<O, P>,
+    ) -> Result<u32, Refusal>
+        ensures step { Leads S.ReadyStore (Ticks (parts O.Ranking P.Policy discipline.now) result) self.old self.new }
+        ensures range { Leads S.ReadyStore KeepsRange self.old self.new }
+        ensures clock { OnErr result (Leads S.ReadyStore KeepsClock self.old self.new) }
+    {
+        let clock = self.clock;
+        match self.take_tick(discipline) {
+            Ok(tick) => Ok(tick),
+            Err(refusal) => {
+                self.clock = clock;
+                Err(refusal)
+            }
+        }
     }
 }

@@ -4,7 +4,8 @@
 ghost use Rattle.std.specs.Prelude.{OnOk};
 ghost use Rattle.answering.specs.Answering.{Answers};
 
-use std::alloc::{AllocError, Global};
+use std::alloc::Global;
+use std::error::Error;
 use std::io::{Read, Write};
 
 /// Reads at most `most` bytes, and writes what `reply` answers to them. Where `most` is one byte more than the reply takes,
@@ -14,7 +15,8 @@ use std::io::{Read, Write};
 pub fn answer_input<
     R: Read + Drop,
     W: Write,
-    F: FnOnce(Global, &[u8]) -> Result<String, AllocError>,
+    E: Error,
+    F: FnOnce(Global, &[u8]) -> Result<String, E>,
 >(heap: Global, reader: R, writer: &mut W, most: usize, reply: F) -> anyhow::Result<()>
     requires { F.IsAlwaysCallable reply }
     ensures { OnOk result (Answers (F.post reply heap) most (R.remaining reader) (W.contents writer.old) (W.contents writer.new)) }

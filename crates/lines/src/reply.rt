@@ -8,12 +8,13 @@ ghost use Rattle.words.specs.Bytes.{lines};
 ghost use Rattle.lines.specs.Load.{printed, calls_of, InTurn};
 
 use crate::session::Session;
-use std::alloc::{AllocError, Global};
+use std::alloc::Global;
+use std::fmt;
 pub use words::MAX_INPUT;
 use words::accepted;
 
 /// All that is printed for an input: the answer of each line, or that the input is too long.
-pub fn reply(heap: Global, input: &[u8]) -> Result<String, AllocError>
+pub fn reply(heap: Global, input: &[u8]) -> Result<String, fmt::Error>
     ensures text { IfOk result (λ t. string_bytes t ≡ printed input.now) }
     ensures turn { InTurn (lines input.now) }
     ensures sound { Sound plain (after plain start (calls_of input.now)) (trace plain start (calls_of input.now)) }

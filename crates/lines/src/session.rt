@@ -121,7 +121,9 @@ impl Session {
         ensures text { Appends (printed_from 1 self.old (lines input.now)) text.old text.new result }
         ensures state { OnOk result (self.new ≡ after plain self.old (lines_calls (lines input.now))) }
     {
-        for (line, number) in Lines::new(input).zip(1..) {
+        let mut number = 0;
+        for line in Lines::new(input) {
+            number += 1;
             self.answer_line(text, line, number)?;
         }
         Ok(())

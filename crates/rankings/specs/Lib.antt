@@ -1,3 +1,4 @@
 pub mod Ranked
 pub mod Rankings
+pub mod Shifts
 pub mod Standing

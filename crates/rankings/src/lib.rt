@@ -6,3 +6,4 @@ pub mod lists;
 pub mod orders;
 pub mod policies;
 pub mod ranking;
+pub mod shifting;

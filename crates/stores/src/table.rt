@@ -81,7 +81,7 @@ impl<T: Numbered + Default> RecordTable<T> {
     pub fn insert_by<R: Ranking<Item = T>>(&mut self, ranking: &R, item: T) -> Result<(), Refusal>
         ensures { Kept (by_ranking R.Ranking T.Numbered ranking.now) item (listed self.old) (listed self.new) result }
     {
-        insertion::insert(ranking, &mut self.records, item)?;
+        insertion::insert_into(ranking, &mut self.records, item)?;
         Ok(())
     }
 

@@ -12,6 +12,7 @@ use crate::table::Table;
 use jobs::job::Job;
 use jobs::ranges::CAPACITY;
 use std::alloc::{AllocError, Global};
+use std::fmt;
 use timing::overrun::Overrun;
 use timing::timeline::Timeline;
 
@@ -55,11 +56,12 @@ fn report(heap: Global, table: &Table) -> Result<String, AllocError>
 }
 
 /// The whole answer to an input: what its table comes to, or the first fault in it.
-pub fn reply(heap: Global, input: &[u8]) -> Result<String, AllocError>
+pub fn reply(heap: Global, input: &[u8]) -> Result<String, fmt::Error>
     ensures { IfOk result (λ t. string_bytes t ≡ answer input.now) }
 {
-    match read(input) {
-        Ok(table) => report(heap, &table),
-        Err(fault) => format!(in heap; "{fault}\n"),
-    }
+    let text = match read(input) {
+        Ok(table) => report(heap, &table)?,
+        Err(fault) => format!(in heap; "{fault}\n")?,
+    };
+    Ok(text)
 }

@@ -1,5 +1,5 @@
 -- A walk through a list of jobs, and what it has counted so far.
-use Rattle.std.specs.Prelude.{◌≡◌, ℕ, ◌+◌, ◌<◌, ◌≤◌, cond, List, [], ◌∷◌, length, Ok, Err, Decides, Result, ◌==◌, nat_eq, nat_lt}
+use Rattle.std.specs.Prelude.{◌≡◌, ℕ, ◌+◌, ◌*◌, ◌<◌, ◌≤◌, cond, List, [], ◌∷◌, length, Ok, Err, Decides, Result, ◌==◌, nat_eq, nat_lt}
 use Rattle.jobs.specs.declared.job.Job.{Job}
 use Rattle.jobs.specs.declared.refusal.Refusal.{Refusal}
 use Rattle.jobs.specs.declared.refusal.Refusal.TheVariants.{Full}
@@ -15,6 +15,10 @@ pub record Tally : Type 0 where
   -- the greatest excess, and the first job that has it
   pub exceeding : ℕ
   pub cause : ℕ
+
+-- what holds of every walk: it has at most 64 jobs, each of which takes fewer than 2 ^ 32 ticks
+abbrev pub Bounded : Tally → Type 0
+Bounded w = (w.jobs ≤ 64) × (w.sum ≤ w.jobs * 4294967296)
 
 -- a walk that starts at the tick t
 abbrev pub fresh : ℕ → Tally

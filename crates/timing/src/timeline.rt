@@ -1,7 +1,7 @@
 //! A walk through a list of jobs that are worked one after the other.
-ghost use Rattle.std.specs.Prelude.{◌≡◌, ◌+◌, ◌*◌, ◌≤◌, ◌==◌};
+ghost use Rattle.std.specs.Prelude.{◌≡◌, ◌+◌, ◌==◌, IfOk};
 ghost use Rattle.timing.specs.Profiles.{Profile};
-ghost use Rattle.timing.specs.Tallies.{fresh, Step, Walk};
+ghost use Rattle.timing.specs.Tallies.{fresh, Bounded, Step, Walk};
 ghost use Rattle.timing.specs.Timing.{load};
 
 use crate::entry::{Entry, Load};
@@ -53,7 +53,8 @@ impl Timeline {
 
     /// A walk whose first job begins at `start`.
     pub fn new(start: u32) -> Timeline
-        ensures { result ≡ fresh start }
+        ensures value { result ≡ fresh start }
+        ensures bounded { Bounded result }
     {
         Timeline {
             start,
@@ -65,7 +66,8 @@ impl Timeline {
 
     /// The walk through all of `jobs`; more than 64 are refused.
     pub fn of(start: u32, jobs: &[Job]) -> Result<Timeline, Refusal>
-        ensures { Walk start jobs.now result }
+        ensures value { Walk start jobs.now result }
+        ensures bounded { IfOk result Bounded }
     {
         let mut timeline = Timeline::new(start);
         for job in jobs {
@@ -76,7 +78,8 @@ impl Timeline {
 
     /// Goes on to `job`, and answers its entry; after 64 jobs it is refused.
     pub fn add(&mut self, job: &Job) -> Result<Entry, Refusal>
-        ensures { Step self.old job.now self.new result }
+        ensures step { Step self.old job.now self.new result }
+        ensures bounded { Bounded self.new }
     {
         if self.jobs >= CAPACITY {
             return Err(Refusal::Full);
@@ -100,13 +103,14 @@ impl Timeline {
     /// How many jobs there were so far.
     pub fn len(&self) -> usize
         ensures value { result ≡ self.now.jobs }
-        ensures few { self.now.jobs ≤ CAPACITY }
+        ensures bounded { Bounded self.now }
     {
         self.jobs
     }
 
     pub fn is_empty(&self) -> bool
-        ensures { result ≡ (self.now.jobs == 0) }
+        ensures value { result ≡ (self.now.jobs == 0) }
+        ensures bounded { Bounded self.now }
     {
         self.jobs == 0
     }
@@ -114,7 +118,7 @@ impl Timeline {
     /// The tick at which the last job so far finishes.
     pub fn finish(&self) -> u64
         ensures value { result ≡ self.now.start + self.now.sum }
-        ensures short { self.now.sum ≤ self.now.jobs * 4294967296 }
+        ensures bounded { Bounded self.now }
     {
         u64::from(self.start) + self.sum
     }
@@ -123,27 +127,31 @@ impl Timeline {
     pub fn overrun(&self) -> Option<Overrun>
         ensures exceeding { exceeding_of result ≡ self.now.exceeding }
         ensures cause { cause_of result ≡ self.now.cause }
+        ensures bounded { Bounded self.now }
     {
         self.overrun
     }
 
     /// The greatest time by which a job passes its limit.
     pub fn exceeding(&self) -> u64
-        ensures { result ≡ self.now.exceeding }
+        ensures value { result ≡ self.now.exceeding }
+        ensures bounded { Bounded self.now }
     {
         self.overrun.map_or(0, |overrun| overrun.by)
     }
 
     /// The number of the first job that passes its limit by so much, 0 if none does.
     pub fn cause(&self) -> u16
-        ensures { result ≡ self.now.cause }
+        ensures value { result ≡ self.now.cause }
+        ensures bounded { Bounded self.now }
     {
         self.overrun.map_or(0, |overrun| overrun.cause)
     }
 
     /// Whether every job finishes by its limit.
     pub fn holds(&self) -> bool
-        ensures { result ≡ (self.now.exceeding == 0) }
+        ensures value { result ≡ (self.now.exceeding == 0) }
+        ensures bounded { Bounded self.now }
     {
         self.overrun.is_none()
     }

@@ -1,6 +1,6 @@
 -- The words of a line: a space is passed, and a word is cut off up to the next space.
-use Rattle.std.proofs.Common.{◌≡◌, ℕ, zero, suc, ◌+◌, ◌-◌, ◌<◌, ◌≤◌, false, eqb, List, [], ◌∷◌, length, get_or, take, drop, Some, None, Option, MatchOption, ◌≢◌, sym, refl, ap, ◌∙◌, subst, inl, inr, add-zero, add-one, arith}
-use Rattle.std.proofs.lemmas.List.{drop_all, drop_more, drop-drop, take_rest}
+use Rattle.std.proofs.Common.{◌≡◌, ℕ, zero, suc, ◌+◌, ◌-◌, ◌<◌, ◌≤◌, false, eqb, List, [], ◌∷◌, length, get_or, take, drop, Some, None, Option, MatchOption, sym, refl, ap, ◌∙◌, subst, inl, inr, add-zero, add-one, length-drop, arith}
+use Rattle.std.proofs.lemmas.List.{drop_all, drop_more, drop-drop, get_or-drop, take_rest}
 use Rattle.std.proofs.lemmas.Bool.{eq-eqb, ne_eqb, cases_Bool, cases_lt}
 use Rattle.words.specs.Bytes.{before, Piece, words, words_from}
 
@@ -19,14 +19,20 @@ spaces_passed bs start (suc end) under inside spaces =
       | inr more ↦ simp add-one (simp add-one at (spaces_passed bs start end more (omega arith) (λ k from to. spaces k from (omega arith)) ∙ space_passed (end + 1) bs end (omega arith) (spaces end more (omega arith))))
     ]
 
--- what a search for a byte that is no space comes to, from `start` on
-pub spaces_found : (bs : List ℕ) (start : ℕ) (found : Option ℕ) → MatchOption found ((k : ℕ) → start ≤ k → k < length bs → get_or bs k 0 ≡ 32) (λ i. (start ≤ i) × (i < length bs) × (get_or bs i 0 ≢ 32) × ((k : ℕ) → start ≤ k → k < i → get_or bs k 0 ≡ 32)) → MatchOption found (words (start + 1) (drop start bs) ≡ []) (λ i. words (start + 1) (drop start bs) ≡ words (i + 1) (drop i bs))
-spaces_found bs start None spaces =
-    elim (cases_lt (length bs) start) [
-      | inl over ↦ no_words_left (start + 1) bs start (omega arith)
-      | inr more ↦ spaces_passed bs start (length bs) more (omega arith) spaces ∙ no_words_left (length bs + 1) bs (length bs) (omega arith)
-    ]
-spaces_found bs start (Some i) at = spaces_passed bs start i at.0 (omega arith) at.3
+-- a byte from `start` on, in what is left from there
+shifted : (bs rest : List ℕ) (start k : ℕ) → rest ≡ drop start bs → start ≤ k → get_or bs k 0 ≡ get_or rest (k - start) 0
+shifted bs rest start k is from =
+    let e : start + (k - start) ≡ k = omega arith in
+    sym (ap (λ l. get_or l (k - start) 0) is ∙ get_or-drop start bs (k - start) 0 ∙ ap (λ n. get_or bs n 0) e)
+
+-- what a search for a byte that is no space comes to, in what is left of a line from `start` on
+pub spaces_found : (bs rest : List ℕ) (start : ℕ) (found : Option ℕ) → start ≤ length bs → rest ≡ drop start bs → MatchOption found ((k : ℕ) → k < length rest → get_or rest k 0 ≡ 32) (λ i. (i < length rest) × ((k : ℕ) → k < i → get_or rest k 0 ≡ 32)) → MatchOption found (words (start + 1) (drop start bs) ≡ []) (λ i. words (start + 1) (drop start bs) ≡ words (start + i + 1) (drop (start + i) bs))
+spaces_found bs rest start None within is spaces =
+    let long : length rest ≡ length bs - start = ap length is ∙ length-drop start bs in
+    spaces_passed bs start (length bs) within (omega arith) (λ k from to. shifted bs rest start k is from ∙ spaces (k - start) (omega arith)) ∙ no_words_left (length bs + 1) bs (length bs) (omega arith)
+spaces_found bs rest start (Some i) within is at =
+    let long : length rest ≡ length bs - start = ap length is ∙ length-drop start bs in
+    spaces_passed bs start (start + i) (omega arith) (omega (arith, at.0)) (λ k from to. shifted bs rest start k is from ∙ at.1 (k - start) (omega arith))
 
 -- a word under way ends at the next space
 word_ends : (p : ℕ) (bs : List ℕ) → words_from false p bs ≡ words (p + length (before 32 bs)) (drop (length (before 32 bs)) bs)

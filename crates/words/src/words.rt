@@ -58,7 +58,8 @@ fn past_spaces(line: &[u8], start: usize) -> Option<usize>
     ensures within { IfSome result (λ i. i < length line.now) }
     ensures stops { IfSome result (λ i. slice_index line.now i ≢ 32) }
 {
-    (start..line.len()).find(|&i| line[i] != b' ')
+    let spaces = line.get(start..)?.iter().position(|b| *b != b' ')?;
+    Some(start + spaces)
 }
 
 /// Reads a line word by word. Words are parted by spaces alone: a tab is part of a word.

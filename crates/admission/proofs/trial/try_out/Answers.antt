@@ -7,7 +7,7 @@ use Rattle.admission.proofs.trial.try_out.Goals as goal
 pub loop-other-init : goal.loop-other-init
 loop-other-init g c =
     let all = ap (jobs_left g.S.ReadyStore.jobs) c.into_iter-other-iterator.ensures.into_iter_gives ∙ c.iter-other-items.ensures in
-    (tt, tt, try_begun _ _ _ _ _ _ _ c.new.ensures all)
+    (tt, tt, try_begun _ _ _ _ _ _ _ c.new.ensures.value all)
 
 pub loop-other-preserved-then-has_number : goal.loop-other-preserved-then-has_number
 loop-other-preserved-then-has_number g c =

@@ -3,5 +3,5 @@ use Rattle.std.proofs.lemmas.Grind.{common_steps}
 use Rattle.timing.proofs.Tallying.{walked}
 use Rattle.timing.proofs.timeline.Timeline.of.Goals as goal
 
-pub returns : goal.returns
-returns c = (omega arith, walked c.args.start c.args.jobs.now _ (grind (arith, common_steps)))
+pub returns-clause-value : goal.returns-clause-value
+returns-clause-value c = (omega arith, walked c.args.start c.args.jobs.now _ (grind (arith, common_steps)))

@@ -4,8 +4,8 @@ use Rattle.admission.specs.Disciplines.{policy_of, parts}
 use Rattle.admission.specs.Rosters.{roster_state}
 use Rattle.admission.proofs.Lawful.{lawful_parts}
 use Rattle.admission.proofs.OneTick.{all_lasting, room_to_expire, room_to_sweep, tick_goes_on, tick_sweeps}
-use Rattle.admission.proofs.roster.Roster.pass_tick.Goals.{then-done+in_ok-sweep, else-done}
-use Rattle.admission.proofs.roster.Roster.pass_tick.Goals as goal
+use Rattle.admission.proofs.roster.Roster.take_tick.Goals.{then-done+in_ok-sweep, else-done}
+use Rattle.admission.proofs.roster.Roster.take_tick.Goals as goal
 
 pub returns-in_err-expire-clause-step : goal.returns-in_err-expire-clause-step
 returns-in_err-expire-clause-step g c =
