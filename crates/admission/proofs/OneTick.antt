@@ -1,5 +1,5 @@
 -- One tick, put together from its steps; where the fields are in their ranges none of them is refused.
-use Rattle.std.proofs.Common.{◌≡◌, ◌+◌, ◌≤◌, Bool, true, false, cond, length, sym, ap, ◌∙◌, subst, arith}
+use Rattle.std.proofs.Common.{◌≡◌, ℕ, ◌+◌, ◌≤◌, Bool, true, false, cond, length, sym, ap, ◌∙◌, subst, arith}
 use Rattle.std.proofs.ByRecursion.{All-weaker}
 use Rattle.std.specs.List.{AllByRecursion as Every}
 use Rattle.rules.proofs.Fields.{fields_worked, fields_expired}
@@ -11,6 +11,10 @@ use Rattle.admission.specs.Steps.{state, Lasting, FirstWorked}
 
 pub all_lasting : (s : State) → Fields s → Every Lasting s.ready
 all_lasting s f = All-weaker (JobInRange s.clock) Lasting (λ j h. h.remaining) s.ready f.ready
+
+-- the clock rose from u
+pub begun : (s after : State) (done : Bool) (u : ℕ) → s.clock ≡ u + 1 → FirstWorked s after done → FirstWorked (state (u + 1) s.ready s.parked s.ended) after done
+begun s after done u is w = subst (λ n. FirstWorked (state n s.ready s.parked s.ended) after done) is w
 
 -- from s the clock rises, and the first job is worked
 module _ (ρ : Parts) (laws : LawfulParts ρ) (s : State) (f : Fields s) (after : State) (done : Bool) (w : FirstWorked (state (s.clock + 1) s.ready s.parked s.ended) after done) where

@@ -2,7 +2,7 @@
 ghost use Rattle.std.specs.Prelude.{OnErr};
 ghost use Rattle.admission.specs.Disciplines.{parts};
 ghost use Rattle.admission.specs.Rosters.{Leads};
-ghost use Rattle.admission.specs.Steps.{WorksFirst, Ticks, KeepsClock, KeepsRange};
+ghost use Rattle.admission.specs.Steps.{WorksFirst, TakesSteps, Ticks, KeepsClock, KeepsRange};
 
 use crate::closing::end;
 use crate::discipline::Discipline;
@@ -38,24 +38,20 @@ impl<S: ReadyStore> Roster<S> {
         Ok(true)
     }
 
-    /// The tick after the clock: raises it, and takes the steps of the tick.
-    fn take_tick<O: Ranking<Item = Mark>, P: Policy>(
+    /// The steps of the tick that ends now: the first job is worked, late ones end, and if a job ended the sweep runs.
+    fn take_steps<O: Ranking<Item = Mark>, P: Policy>(
         &mut self,
         discipline: &Discipline<O, P>,
-    ) -> Result<u32, Refusal>
-        ensures step { Leads S.ReadyStore (Ticks (parts O.Ranking P.Policy discipline.now) result) self.old self.new }
-        ensures range { Leads S.ReadyStore KeepsRange self.old self.new }
+    ) -> Result<(), Refusal>
+        ensures step { Leads S.ReadyStore (TakesSteps (parts O.Ranking P.Policy discipline.now) result) self.old self.new }
+        ensures apart { Leads S.ReadyStore KeepsClock self.old self.new }
     {
-        if self.clock >= LAST_TICK {
-            return Err(Refusal::Horizon);
-        }
-        self.clock += 1;
         let done = self.work_first()?;
         self.expire()?;
         if done {
             self.sweep(discipline)?;
         }
-        Ok(self.clock)
+        Ok(())
     }
 
     /// Lets one tick pass, and answers the clock; past its last tick it is refused. A refusal leaves the clock as it was.
@@ -67,13 +63,14 @@ impl<S: ReadyStore> Roster<S> {
         ensures range { Leads S.ReadyStore KeepsRange self.old self.new }
         ensures clock { OnErr result (Leads S.ReadyStore KeepsClock self.old self.new) }
     {
-        let clock = self.clock;
-        match self.take_tick(discipline) {
-            Ok(tick) => Ok(tick),
-            Err(refusal) => {
-                self.clock = clock;
-                Err(refusal)
-            }
+        if self.clock >= LAST_TICK {
+            return Err(Refusal::Horizon);
         }
+        self.clock += 1;
+        if let Err(refusal) = self.take_steps(discipline) {
+            self.clock -= 1;
+            return Err(refusal);
+        }
+        Ok(self.clock)
     }
 }

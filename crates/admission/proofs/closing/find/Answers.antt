@@ -1,4 +1,4 @@
-use Rattle.std.proofs.Common.{◌≡◌, None, Some, sym, ◌∙◌, rules}
+use Rattle.std.proofs.Common.{◌≡◌, None, Some, sym, ◌∙◌, arith, rules}
 use Rattle.std.specs.List.{position}
 use borrow.Author.Tests.{tests}
 use Rattle.std.proofs.lemmas.Iterator.Consumers.{YieldsList-from_first}
@@ -20,4 +20,5 @@ returns g c =
     let n = c.args.number in
     let jobs = g.S.ReadyStore.jobs in
     let first : c.position.result ≡ position (has n) (jobs c.args.list.now) = position_from_yields_List (has n) c.position.new.self _ c.position.result c.position.ensures.ran (YieldsList-from_first (λ x. x) (jobs_left jobs) _ c.iter.ensures) (λ x b q k. search (rules, tests)) in
-    found n _ (Some c.in_ok-place.place) (sym c.in_ok-place.was ∙ first)
+    let there = found n _ (Some c.in_ok-place.place) (sym c.in_ok-place.was ∙ first) in
+    grind arith
