@@ -196,7 +196,7 @@ abbrev pub WorksFirst : Result Bool Refusal → State → State → Type 0
 WorksFirst (Ok done) s s' = (s'.clock ≡ s.clock) × (Every Lasting s.ready → FirstWorked s s' done)
 WorksFirst (Err e) s s' = Every Lasting s.ready → 64 < length s.ready + length s.ended
 
--- the steps of the tick that ends now, which began at the tick u
+-- the steps of the tick that ends now, which began at the tick u: where the fields were in their ranges then, they do what that tick does, and none is refused
 abbrev pub TakesSteps : Parts → Result (Unit {0}) Refusal → State → State → Type 0
 TakesSteps ρ (Ok _) s s' = (s'.clock ≡ s.clock) × ((u : ℕ) → s.clock ≡ u + 1 → Fields (state u s.ready s.parked s.ended) → tick ρ (state u s.ready s.parked s.ended) ≡ s')
 TakesSteps ρ (Err e) s s' = (u : ℕ) → s.clock ≡ u + 1 → Fields (state u s.ready s.parked s.ended) → ⊥

@@ -16,7 +16,7 @@ pub record Tally : Type 0 where
   pub exceeding : ℕ
   pub cause : ℕ
 
--- what holds of every walk: it has at most 64 jobs, each of which takes fewer than 2 ^ 32 ticks
+-- what holds of every walk: it has at most 64 jobs, which take at most 2 ^ 32 ticks each on the average
 abbrev pub Bounded : Tally → Type 0
 Bounded w = (w.jobs ≤ 64) × (w.sum ≤ w.jobs * 4294967296)
 
